@@ -1,0 +1,1 @@
+// No code: proofs/ shows what holds of the definitions of `model`.
