@@ -1,1 +1,8 @@
+-- The worked examples, computed, and the small laws that code cites.
+pub mod Bools
+pub mod Search
+pub mod Lists
+pub mod Masks
+pub mod Tables
+pub mod Fields
 pub mod Worked
