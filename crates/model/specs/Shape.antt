@@ -44,15 +44,17 @@ key-before W a b = by-bit (W .n .shared a) (W .n .shared b) (ltb (W .mask a) (W 
 
 -- ---- what the file allows of a shape with V variables
 
-pub record Allowed (vars : ℕ) (W : Shape) : Type 0 where
-  -- "Keys in a shape differ", and they ascend
-  pub ascend : (a b : ℕ) → a < b → b < W .size → key-before W a b ≡ true
-  -- "a variable is held by at most one individual"
+-- "a variable is held by at most one individual, and one that holds a variable is no summary"
+pub record Held (vars : ℕ) (W : Shape) : Type 0 where
   pub once : (x a b : ℕ) → a < W .size → b < W .size → bit x (W .mask a) ≡ true → bit x (W .mask b) ≡ true → a ≡ b
-  -- it is one of the V
-  pub known : (x a : ℕ) → a < W .size → bit x (W .mask a) ≡ true → x < vars
-  -- "one that holds a variable is no summary"
   pub plain : (x a : ℕ) → a < W .size → bit x (W .mask a) ≡ true → W .summary a ≡ false
+  -- it is one of the V variables
+  pub known : (x a : ℕ) → a < W .size → bit x (W .mask a) ≡ true → x < vars
+
+-- "Keys in a shape differ": they ascend
+pub record Allowed (vars : ℕ) (W : Shape) : Type 0 where
+  pub ascend : (a b : ℕ) → a < b → b < W .size → key-before W a b ≡ true
+  pub held : Held vars W
 
 -- ---- fit
 
