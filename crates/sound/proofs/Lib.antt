@@ -5,3 +5,8 @@ pub mod Covering
 pub mod Keys
 pub mod Firsts
 pub mod Fold
+pub mod Links
+pub mod Divide
+pub mod Open
+pub mod Clear
+pub mod Respects
