@@ -86,6 +86,10 @@ and-false false e = refl
 
 -- ---- a choice by a test
 
+pub cond-same : {A : Type 0} (b : Bool) {x y z : A} → x ≡ z → y ≡ z → cond b x y ≡ z
+cond-same true p q = p
+cond-same false p q = q
+
 pub cond-cong : {A : Type 0} {b c : Bool} {x x′ y y′ : A} → b ≡ c → (b ≡ true → x ≡ x′) → (b ≡ false → y ≡ y′) → cond b x y ≡ cond c x′ y′
 cond-cong {b = true} q f g = rw (← q) (f refl)
 cond-cong {b = false} q f g = rw (← q) (g refl)

@@ -10,3 +10,8 @@ pub mod Divide
 pub mod Open
 pub mod Clear
 pub mod Respects
+pub mod OwnMask
+pub mod Exact
+pub mod ExactOpen
+pub mod ExactClear
+pub mod ExactLink
