@@ -4,8 +4,8 @@ use mathlib.Core.Bool.{Bool, true, false, cond, not, _&&_, _||_, Bool·beq}
 use mathlib.Core.Logic.{_⊎_, inl, inr, _≢_}
 use mathlib.Core.Path.{_≡_, refl, sym, ap}
 use native.Mathlib.Omega.{arith}
-use lib.Dec.{eqb}
-use borrow.Author.Tests.{eqb-true, eqb-false}
+use lib.Dec.{eqb, ltb}
+use borrow.Author.Tests.{eqb-true, eqb-false, ltb-true, ltb-false}
 
 -- a test that passes and fails proves anything
 pub clash : {C : Type 0} {b : Bool} → b ≡ true → b ≡ false → C
@@ -22,6 +22,9 @@ same-or-not a b f g = by (eqb a b) (λ q. f (eqb-true a b q)) (λ q. g (eqb-fals
 
 pub top-or-below : {C : Type 0} (n a : ℕ) → a < suc n → (a ≡ n → C) → (a < n → C) → C
 top-or-below n a h f g = same-or-not a n f (λ d. g (omega arith))
+
+pub before-or-after : {C : Type 0} (a b : ℕ) → a ≢ b → (a < b → C) → (b < a → C) → C
+before-or-after a b d f g = by (ltb a b) (λ q. f (ltb-true a b q)) (λ q. let l = ltb-false a b q in g (omega arith))
 
 pub same-bool : {b c : Bool} → (b ≡ true → c ≡ true) → (c ≡ true → b ≡ true) → b ≡ c
 same-bool {b = true} {c = true} f g = refl

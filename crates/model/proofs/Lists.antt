@@ -36,6 +36,10 @@ module _ {A : Type 0} {P : A → Type 0} where
   all-each zero f h = none
   all-each (suc n) f h = all-append (all-each n f (λ v k. h v (omega arith))) (h n (omega arith))
 
+  pub all-cond : (b : Bool) {l m : List A} → (b ≡ true → All P l) → (b ≡ false → All P m) → All P (cond b l m)
+  all-cond true f g = f refl
+  all-cond false f g = g refl
+
 module _ {A : Type 0} (P : A → Type 0) where
   pub some-given : (b : Bool) (a : A) → b ≡ true → P a → Some P (given b a)
   some-given true a e p = here p

@@ -5,10 +5,8 @@ use mathlib.Core.Logic.{_⊎_, inl, inr, _≢_}
 use mathlib.Core.Path.{_≡_, refl, sym, ap, ap₂, _∙_}
 use native.Mathlib.Numerals.{add-one}
 use native.Mathlib.Omega.{arith}
-use lib.Dec.{ltb}
-use borrow.Author.Tests.{ltb-true, ltb-false}
 use Rattle.model.specs.Finite.{Ref, null, at, any, every, count, found, first}
-use Rattle.model.proofs.Bools.{clash, by, top-or-below, false-of, and-left, and-right, and-both, or-cases, or-left, or-right}
+use Rattle.model.proofs.Bools.{clash, by, top-or-below, before-or-after, false-of, and-left, and-right, and-both, or-cases, or-left, or-right}
 
 -- ---- some number below n
 
@@ -95,9 +93,7 @@ two-count (suc n) p h =
 
 pub count-apart : (n : ℕ) (p : ℕ → Bool) (a b : ℕ) → a ≢ b → a < n → b < n → p a ≡ true → p b ≡ true → 2 ≤ count n p
 count-apart n p a b d h k e f =
-    by (ltb a b)
-    (λ q. count-two n p a b (ltb-true a b q) k e f)
-    (λ q. count-two n p b a (let l = ltb-false a b q in omega arith) h f e)
+    before-or-after a b d (λ l. count-two n p a b l k e f) (λ l. count-two n p b a l h f e)
 
 pub count-cong : (n : ℕ) (p q : ℕ → Bool) → ((a : ℕ) → a < n → p a ≡ q a) → count n p ≡ count n q
 count-cong zero p q f = refl

@@ -142,20 +142,25 @@ cleared W u = in-each (λ o. unlinked u (o .shape) (o .target)) (opened W u)
 
 -- ---- linking, in op 7
 
--- "all links into w become 0, w stays unshared"
+-- "first result, given if no link into w is 1: all links into w become 0, w stays unshared"
 abbrev pub all-zero : ℕ → Truth → Truth
 all-zero a v = 𝟘
 
--- "if y is null, done; else let w hold y. If w is shared, the link from u to w becomes 1. If not: first result, given if
--- no link into w is 1: ..; second, given if some link into w is nonzero: w becomes shared, other links stay. In each the
--- link from u to w is then 1."
+abbrev pub links-first : ℕ → ℕ → Shape → List Shape
+links-first u w W =
+    given (not (any (W .size) (λ a. must (W .n .link a w)))) (with-n W (into w (from-u u 𝟙) (into w all-zero (W .n))))
+
+-- "second, given if some link into w is nonzero: w becomes shared, other links stay"
+abbrev pub links-second : ℕ → ℕ → Shape → List Shape
+links-second u w W =
+    given (any (W .size) (λ a. may (W .n .link a w))) (with-n W (into w (from-u u 𝟙) (sharing w true (W .n))))
+
+-- "if y is null, done; else let w hold y. If w is shared, the link from u to w becomes 1. If not: .. In each the link from u
+-- to w is then 1."
 abbrev pub linked : ℕ → Ref → Shape → List Shape
 linked u null W = W ∷ []
 linked u (at w) W =
-    cond (W .n .shared w)
-    (with-n W (into w (from-u u 𝟙) (W .n)) ∷ [])
-    (given (not (any (W .size) (λ a. must (W .n .link a w)))) (with-n W (into w (from-u u 𝟙) (into w all-zero (W .n))))
-    ++ given (any (W .size) (λ a. may (W .n .link a w))) (with-n W (into w (from-u u 𝟙) (sharing w true (W .n)))))
+    cond (W .n .shared w) (with-n W (into w (from-u u 𝟙) (W .n)) ∷ []) (links-first u w W ++ links-second u w W)
 
 -- ---- moving a variable and a new individual
 

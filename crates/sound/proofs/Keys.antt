@@ -8,7 +8,7 @@ use native.Mathlib.Omega.{arith}
 use lib.Dec.{eqb, ltb}
 use borrow.Author.Tests.{eqb-true, eq-eqb, ltb-true, ltb-false, lt-ltb, le-ltb}
 use Rattle.model.specs.Shape.{Shape, key, same-key, by-bit, key-before}
-use Rattle.model.proofs.Bools.{clash, by, false-of, same-bool, and-left, and-right, and-both, beq-true, eq-beq}
+use Rattle.model.proofs.Bools.{clash, same-or-not, before-or-after, false-of, same-bool, and-left, and-right, and-both, beq-true, eq-beq}
 
 -- ---- one key
 
@@ -79,6 +79,14 @@ module _ (W : Shape) where
   -- individuals of one key are not in order
   pub before-apart : (a b : ℕ) → key-before W a b ≡ true → W .mask a ≡ W .mask b → W .n .shared a ≡ W .n .shared b → ⊥
   before-apart a b p x y = before-irrefl b (ap₂ (λ m s. by-bit s (W .n .shared b) (ltb m (W .mask b))) (sym x) (sym y) ∙ p)
+
+  -- keys that ascend differ
+  pub ascend-keyed : ((a b : ℕ) → a < b → b < W .size → key-before W a b ≡ true) → Keyed W
+  ascend-keyed up i j l k p q =
+      same-or-not i j (λ z. z) (λ z.
+      before-or-after i j z
+      (λ m. absurd (before-apart i j (up i j m k) p q))
+      (λ m. absurd (before-apart j i (up j i m l) (sym p) (sym q))))
 
 -- ---- the paper's numbers
 

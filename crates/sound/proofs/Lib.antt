@@ -15,3 +15,9 @@ pub mod Exact
 pub mod ExactOpen
 pub mod ExactClear
 pub mod ExactLink
+pub mod ExactSteps
+pub mod Stores
+pub mod Fit
+pub mod Pigeons
+pub mod Shapes
+pub mod Few

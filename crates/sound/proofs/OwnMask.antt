@@ -1,26 +1,13 @@
 -- The mask of a cell: which bits it has, and how it changes when a variable moves.
-use Prim.Native.Nat.{ℕ, zero, suc, _+_, _*_, _/_, _%_, _<_}
-use mathlib.Core.Bool.{Bool, true, false, cond}
+use Prim.Native.Nat.{ℕ, zero, suc, _+_, _*_, _<_}
+use mathlib.Core.Bool.{false, cond}
 use mathlib.Core.Path.{_≡_, refl, sym, ap, ap₂, _∙_}
 use native.Mathlib.Omega.{arith}
 use lib.Dec.{eqb, eqb·suc-zero, eqb·zero-suc, eqb·suc-suc}
 use Rattle.model.specs.Finite.{Ref, null, at, is, bit, put}
 use Rattle.model.specs.Store.{change}
 use Rattle.model.specs.Shape.{own-mask}
-
--- ---- a digit in front of a number
-
-low-digit : (b : Bool) (m : ℕ) → (cond b 1 0 + 2 * m) % 2 ≡ cond b 1 0
-low-digit true m = omega arith
-low-digit false m = omega arith
-
-high-digits : (b : Bool) (m : ℕ) → (cond b 1 0 + 2 * m) / 2 ≡ m
-high-digits true m = omega arith
-high-digits false m = omega arith
-
-digit-bit : (b : Bool) → eqb (cond b 1 0) 1 ≡ b
-digit-bit true = refl
-digit-bit false = refl
+use Rattle.model.proofs.Masks.{low-digit, high-digits, digit-bit}
 
 -- ---- the mask of the cell c
 
