@@ -5,8 +5,11 @@ use mathlib.Core.Logic.{_⊎_, inl, inr, _≢_}
 use mathlib.Core.Path.{_≡_, refl, sym, ap, ap₂, _∙_}
 use native.Mathlib.Numerals.{add-one}
 use native.Mathlib.Omega.{arith}
-use Rattle.model.specs.Finite.{Ref, null, at, any, every, count, found, first}
+use Rattle.model.specs.Finite.{Ref, null, at, null?, any, every, count, found, first}
 use Rattle.model.proofs.Bools.{clash, by, top-or-below, before-or-after, false-of, and-left, and-right, and-both, or-cases, or-left, or-right}
+
+pub null-not-at : {X : Type 0} {a : ℕ} → null ≡ at a → X
+null-not-at q = clash refl (ap null? q)
 
 -- ---- some number below n
 

@@ -15,8 +15,10 @@ use Rattle.model.specs.Step.{from-u, sure-if, all-zero, ones, mays, summary-may
 use Rattle.model.proofs.Bools.{clash, by, same-or-not, and-left, and-right, and-both, or-cases, or-left, or-right, false-of}
 use Rattle.model.proofs.Search.{any-intro, count-some, count-apart, some-count, two-count}
 use Rattle.model.proofs.Lists.{Met, met-append, met-one, met-given, met-cond, met-in-each}
-use Rattle.sound.proofs.Order.{_⊑_, ⊑-refl, sure-both, up, down}
-use Rattle.sound.proofs.Embed.{Carried, Embeds, Pin, pin, any-up, none-up, two-down, Next, link-into, shared-at, Aim, to-null, to-at}
+use Rattle.sound.specs.Order.{_⊑_}
+use Rattle.sound.proofs.Order.{⊑-refl, sure-both, up, down}
+use Rattle.sound.specs.Embed.{Carried, Embeds}
+use Rattle.sound.proofs.Embed.{Pin, pin, any-up, none-up, two-down, Next, link-into, shared-at, Aim, to-null, to-at}
 use Rattle.sound.proofs.Links.{into-carried, sharing-carried, set-carried, with-pin, with-next}
 use Rattle.sound.proofs.Open.{opened-met}
 

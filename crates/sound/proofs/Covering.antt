@@ -9,8 +9,10 @@ use Rattle.model.specs.Finite.{every}
 use Rattle.model.specs.Shape.{Links, Shape, links-covered, covered-at, covered}
 use Rattle.model.proofs.Bools.{and-left, and-right, and-both, beq-true, eq-beq, same-bool}
 use Rattle.model.proofs.Search.{every-elim, every-intro}
-use Rattle.sound.proofs.Order.{_⊑_, ⊑-refl, ⊑-trans, under-antisym}
-use Rattle.sound.proofs.Embed.{Carried, Embeds, embeds-trans, carried-same}
+use Rattle.sound.specs.Order.{_⊑_}
+use Rattle.sound.proofs.Order.{⊑-refl, ⊑-trans, under-antisym}
+use Rattle.sound.specs.Embed.{Carried, Embeds}
+use Rattle.sound.proofs.Embed.{embeds-trans, carried-same}
 
 -- ---- one link's part
 

@@ -12,7 +12,8 @@ use Rattle.model.specs.Shape.{Shape}
 use Rattle.model.specs.Step.{whole, copy, divided}
 use Rattle.model.proofs.Bools.{clash, by, same-or-not, top-or-below, and-map, and-false, and-left}
 use Rattle.sound.proofs.Order.{⊑-refl, cond-⊑}
-use Rattle.sound.proofs.Embed.{Carried, Embeds, Pin, pin, Only, only-eqb, carried-same}
+use Rattle.sound.specs.Embed.{Carried, Embeds}
+use Rattle.sound.proofs.Embed.{Pin, pin, Only, only-eqb, carried-same}
 use Rattle.sound.proofs.Links.{from-carried, copied-carried}
 
 -- ---- whole

@@ -1,5 +1,5 @@
--- Embeddings: each individual of R goes to one of T that has its key, onto all of T, two to one place only at a summary, and
--- link values go under. Fit and covering are embeddings, and every part of a step respects them.
+-- Embeddings compose, and carry searches and counts along. What is pinned, an individual that alone goes to its place, stays
+-- so through the parts of a step.
 use Prim.Native.Nat.{ℕ, suc, _≤_, _<_}
 use mathlib.Core.Bool.{Bool, true, false, cond, not, _&&_}
 use mathlib.Core.Logic.{_≢_}
@@ -11,24 +11,9 @@ use Rattle.model.specs.Finite.{Ref, null, at, any, count}
 use Rattle.model.specs.Shape.{Links, Shape}
 use Rattle.model.proofs.Bools.{clash, same-bool, by, not-false, not-true, false-of}
 use Rattle.model.proofs.Search.{any-intro, any-elim, two-count, count-apart}
-use Rattle.sound.proofs.Order.{_⊑_, ⊑-refl, ⊑-trans}
-
--- one link's part: shared bits are kept, link values go under, along e
-pub record Carried (size : ℕ) (e : ℕ → ℕ) (L M : Links) : Type 0 where
-  pub shared : (a : ℕ) → a < size → L .shared a ≡ M .shared (e a)
-  pub link : (a b : ℕ) → a < size → b < size → L .link a b ⊑ M .link (e a) (e b)
-
-pub record Embeds (R T : Shape) (e : ℕ → ℕ) : Type 0 where
-  pub below : (a : ℕ) → a < R .size → e a < T .size
-  pub onto : (i : ℕ) → i < T .size → (a : ℕ) × (a < R .size) × (e a ≡ i)
-  pub sole : (a b : ℕ) → a < R .size → b < R .size → e a ≡ e b → T .summary (e a) ≡ false → a ≡ b
-  pub mask : (a : ℕ) → a < R .size → R .mask a ≡ T .mask (e a)
-  pub summary : (a : ℕ) → a < R .size → R .summary a ≡ true → T .summary (e a) ≡ true
-  pub n : Carried (R .size) e (R .n) (T .n)
-
--- R embeds in T somehow
-abbrev pub In : Shape → Shape → Type 0
-In R T = (e : ℕ → ℕ) × Embeds R T e
+use Rattle.sound.specs.Embed.{Carried, Embeds}
+use Rattle.sound.specs.Order.{_⊑_}
+use Rattle.sound.proofs.Order.{⊑-refl, ⊑-trans}
 
 -- ---- they compose
 

@@ -1,5 +1,5 @@
--- A store as a shape, the exact one: every cell is an individual, none is a summary, and links are 0 or 1. What differs from
--- the exact shape in its links alone holds the store if they agree.
+-- The exact shape of a store: which cells are shared, who holds a variable, and which shapes hold the store, each cell at its
+-- own number.
 use Prim.Native.Nat.{ℕ, suc, _≤_, _<_}
 use mathlib.Core.Bool.{Bool, true, false, cond}
 use mathlib.Core.Logic.{_≢_}
@@ -11,22 +11,12 @@ use Rattle.model.specs.Truth.{Truth, 𝟘, 𝟙, may, must, sure}
 use Rattle.model.specs.Finite.{Ref, null, at, is, count, bit}
 use Rattle.model.specs.Store.{Store, Proper, shared-by}
 use Rattle.model.specs.Shape.{Links, Shape, holder, own-mask}
+use Rattle.sound.specs.Embed.{Carried, Embeds}
+use Rattle.sound.specs.Exact.{seen, exact}
 use Rattle.model.proofs.Bools.{by, clash, same-or-not}
 use Rattle.model.proofs.Search.{two-count, count-apart, count-cong, Firstly, nowhere, first-at, firstly}
-use Rattle.sound.proofs.Embed.{Carried, Embeds, embeds-trans, Pin, Next, Aim, to-null, to-at, carried-same}
+use Rattle.sound.proofs.Embed.{embeds-trans, Pin, Next, Aim, to-null, to-at, carried-same}
 use Rattle.sound.proofs.OwnMask.{own-bit}
-
--- the links f of `size` cells, exactly
-abbrev pub seen : ℕ → (ℕ → Ref) → Links
-seen size f = record { shared = shared-by size f; link = λ c d. cond (is (f c) d) 𝟙 𝟘 }
-
-abbrev pub exact : ℕ → Store → Shape
-exact vars σ = record {
-  size = σ .size;
-  mask = own-mask vars (σ .var);
-  summary = λ c. false;
-  n = seen (σ .size) (σ .n);
-}
 
 -- ---- references
 

@@ -17,7 +17,8 @@ use Rattle.model.proofs.Lists.{some-left, some-right, some-given, some-weak, so
 use Rattle.sound.proofs.Order.{⊑-of}
 use Rattle.sound.proofs.Embed.{Aim}
 use Rattle.sound.proofs.Clear.{unlinked-met}
-use Rattle.sound.proofs.Exact.{exact, exact-may, exact-must, exact-sure, shared-same, shared-more, shared-is, shared-stays, Near, near, near-next, near-aim}
+use Rattle.sound.specs.Exact.{exact}
+use Rattle.sound.proofs.Exact.{exact-may, exact-must, exact-sure, shared-same, shared-more, shared-is, shared-stays, Near, near, near-next, near-aim}
 use Rattle.sound.proofs.ExactOpen.{exact-opened}
 
 module _ (vars : ℕ) (σ : Store) (c : ℕ) where

@@ -13,7 +13,8 @@ use Rattle.model.proofs.Bools.{clash, by, not-false, false-of, cond-same, cond-
 use Rattle.model.proofs.Search.{any-none, any-elim, any-intro, none-any}
 use Rattle.model.proofs.Lists.{some-left, some-right, some-given}
 use Rattle.sound.proofs.Order.{⊑-of}
-use Rattle.sound.proofs.Exact.{exact, is-at, exact-may, exact-must, shared-other, shared-two, shared-more, shared-is, shared-stays, Near, near}
+use Rattle.sound.specs.Exact.{exact}
+use Rattle.sound.proofs.Exact.{is-at, exact-may, exact-must, shared-other, shared-two, shared-more, shared-is, shared-stays, Near, near}
 use Rattle.sound.proofs.ExactClear.{unlink-null}
 
 -- c has a null link, and is then linked to w

@@ -15,7 +15,8 @@ use Rattle.model.proofs.Bools.{by, clash, and-false, and-left, and-right, and-b
 use Rattle.model.proofs.Search.{any-intro, none-any}
 use Rattle.model.proofs.Lists.{some-left, some-right, some-each, some-given}
 use Rattle.sound.proofs.Order.{⊑-refl, ⊑-of}
-use Rattle.sound.proofs.Exact.{exact, exact-may, exact-must, exact-sure, shared-other, shared-not, Near, near}
+use Rattle.sound.specs.Exact.{exact}
+use Rattle.sound.proofs.Exact.{exact-may, exact-must, exact-sure, shared-other, shared-not, Near, near}
 
 module _ (vars : ℕ) (σ : Store) (ok : Proper vars σ) (c : ℕ) (lc : c < σ .size) where
   abbrev W : Shape

@@ -16,11 +16,13 @@ use Rattle.model.proofs.Search.{count-cong}
 use Rattle.model.proofs.Lists.{All, none, also, all-weak, all-map, some-weak, some-in-each, some-map, met-some}
 use Rattle.model.proofs.Accepted.{Uses}
 use Rattle.sound.proofs.Order.{⊑-refl, ⊑-of}
-use Rattle.sound.proofs.Embed.{Carried, In, embeds-trans, carried-same, Aim}
+use Rattle.sound.specs.Embed.{Carried, In}
+use Rattle.sound.proofs.Embed.{embeds-trans, carried-same, Aim}
 use Rattle.sound.proofs.Clear.{linked-met}
 use Rattle.sound.proofs.Respects.{moved-embeds}
 use Rattle.sound.proofs.OwnMask.{own-put, own-none}
-use Rattle.sound.proofs.Exact.{seen, exact, is-true, shared-other, Near, near, near-self, near-next, near-aim, holder-exact}
+use Rattle.sound.specs.Exact.{seen, exact}
+use Rattle.sound.proofs.Exact.{is-true, shared-other, Near, near, near-self, near-next, near-aim, holder-exact}
 use Rattle.sound.proofs.ExactOpen.{exact-opened}
 use Rattle.sound.proofs.ExactClear.{exact-cleared}
 use Rattle.sound.proofs.ExactLink.{exact-linked}

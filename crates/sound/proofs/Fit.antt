@@ -11,12 +11,14 @@ use Rattle.model.specs.Store.{Store, Proper, shared-by}
 use Rattle.model.specs.Shape.{Links, Shape, holder, covered, own-mask, Of, Says, Fits, Held, Allowed}
 use Rattle.model.proofs.Bools.{clash, by, and-left, and-right, and-both, false-of, beq-true, eq-beq}
 use Rattle.model.proofs.Search.{Firstly, nowhere, first-at, firstly}
-use Rattle.sound.proofs.Order.{_⊑_, ⊑-refl, ⊑-half, up, down}
-use Rattle.sound.proofs.Embed.{Carried, Embeds}
+use Rattle.sound.specs.Order.{_⊑_}
+use Rattle.sound.proofs.Order.{⊑-refl, ⊑-half, up, down}
+use Rattle.sound.specs.Embed.{Carried, Embeds}
 use Rattle.sound.proofs.Covering.{covered-embeds}
 use Rattle.sound.proofs.Keys.{Keyed}
 use Rattle.sound.proofs.Respects.{holder-aim, null-aim}
-use Rattle.sound.proofs.Exact.{seen, exact, is-at, is-true, exact-may, exact-must, shared-not, holder-exact}
+use Rattle.sound.specs.Exact.{seen, exact}
+use Rattle.sound.proofs.Exact.{is-at, is-true, exact-may, exact-must, shared-not, holder-exact}
 
 -- ---- fit composes with covering
 

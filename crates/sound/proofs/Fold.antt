@@ -15,8 +15,9 @@ use Rattle.model.specs.Shape.{Links, Shape, same-key, key-before, Held, Allowed
 use Rattle.model.specs.Fold.{firsts, joined, went-in, many, folded-links, fold}
 use Rattle.model.proofs.Bools.{clash, by, top-or-below, same-or-not, and-left, and-right, and-both, or-cases, or-left, or-right, not-true, not-false}
 use Rattle.model.proofs.Search.{any-none, any-elim, any-intro, none-any}
-use Rattle.sound.proofs.Order.{_⊑_, ⊑-refl, ⊑-of, ⊑-trans, join-left, join-right, join-least}
-use Rattle.sound.proofs.Embed.{Carried, Embeds}
+use Rattle.sound.specs.Order.{_⊑_}
+use Rattle.sound.proofs.Order.{⊑-refl, ⊑-of, ⊑-trans, join-left, join-right, join-least}
+use Rattle.sound.specs.Embed.{Carried, Embeds}
 use Rattle.sound.proofs.Keys.{same-mask, same-shared, to-same, same-refl, Keyed, before-apart}
 use Rattle.sound.proofs.Firsts.{all-at, ascending-at, firsts-ascending, firsts-low, firsts-all, place, place-low, place-same, place-at, place-cong}
 

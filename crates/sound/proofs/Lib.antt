@@ -21,3 +21,7 @@ pub mod Fit
 pub mod Pigeons
 pub mod Shapes
 pub mod Few
+pub mod OneStep
+pub mod Runs
+pub mod Accepts
+pub mod Safe

@@ -8,8 +8,10 @@ use Rattle.model.specs.Truth.{Truth}
 use Rattle.model.specs.Shape.{Links, Shape}
 use Rattle.model.specs.Step.{from, into, sharing, with-n, from-u, copied}
 use Rattle.model.proofs.Bools.{cond-cong}
-use Rattle.sound.proofs.Order.{_⊑_, ⊑-refl, ⊑-of, ⊑-trans, cond-⊑}
-use Rattle.sound.proofs.Embed.{Carried, Embeds, Pin, pin, Only, only-eqb, Next}
+use Rattle.sound.specs.Order.{_⊑_}
+use Rattle.sound.proofs.Order.{⊑-refl, ⊑-of, ⊑-trans, cond-⊑}
+use Rattle.sound.specs.Embed.{Carried, Embeds}
+use Rattle.sound.proofs.Embed.{Pin, pin, Only, only-eqb, Next}
 
 module _ {size : ℕ} {e : ℕ → ℕ} {t i : ℕ} {L M : Links} (o : Only size e t i) (s : Carried size e L M) where
   pub into-carried : (f g : ℕ → Truth → Truth) → ((a b : ℕ) → a < size → b < size → b ≡ t → f a (L .link a b) ⊑ g (e a) (M .link (e a) (e b))) → Carried size e (into t f L) (into i g M)

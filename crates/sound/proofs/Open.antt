@@ -16,7 +16,8 @@ use Rattle.model.proofs.Bools.{clash, by, and-map, and-left, and-right, and-bot
 use Rattle.model.proofs.Search.{any-none, any-elim, any-intro}
 use Rattle.model.proofs.Lists.{Met, met-append, met-given, met-cond, met-when, when-met, met-in, met-both, met-left, met-right, met-each}
 use Rattle.sound.proofs.Order.{⊑-refl, cond-⊑, sure-sure, half-up, half-of, up, down}
-use Rattle.sound.proofs.Embed.{Embeds, embeds-trans, Pin, pin, Only, only-eqb, any-up, none-up, Next, link-into, link-from, shared-at, Aim, to-null, to-at}
+use Rattle.sound.specs.Embed.{Embeds}
+use Rattle.sound.proofs.Embed.{embeds-trans, Pin, pin, Only, only-eqb, any-up, none-up, Next, link-into, link-from, shared-at, Aim, to-null, to-at}
 use Rattle.sound.proofs.Links.{into-carried, from-carried, with-next, with-pin}
 use Rattle.sound.proofs.Divide.{whole-embeds, whole-pin, target-pin, apart-map, divided-embeds, divided-only, divided-keep, copy-low, copy-rest, halved}
 

@@ -5,9 +5,9 @@ use mathlib.Core.Path.{_≡_, refl, sym, ap, _∙_}
 use lib.Dec.{eqb}
 use borrow.Author.Tests.{eqb-true}
 use Rattle.model.specs.Truth.{Truth, 𝟘, 𝟙, ½, may, must, half, join, under, sure, truth, code}
+use Rattle.sound.specs.Order.{_⊑_}
 use Rattle.model.proofs.Bools.{clash, not-false, and-left, and-right}
 
-infix 40 _⊑_
 -- ---- a law by its table
 
 abbrev table₁ : (Truth → Bool) → Bool
@@ -72,9 +72,6 @@ pub join-least : (v w x : Truth) → under v x ≡ true → under w x ≡ true �
 join-least v w x p q = meet (meet (by-table₃ (λ v w x. under v x ⇒ under w x ⇒ under (join v w) x) refl v w x) p) q
 
 -- ---- the order as a relation, for proofs about values that are not named
-
-pub record _⊑_ (v w : Truth) : Type 0 where
-  pub lies : under v w ≡ true
 
 pub ⊑-refl : {v : Truth} → v ⊑ v
 ⊑-refl {v} = record { lies = under-refl v }

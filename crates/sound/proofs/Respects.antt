@@ -16,7 +16,8 @@ use Rattle.model.proofs.Bools.{clash, by, top-or-below, and-right, and-both, no
 use Rattle.model.proofs.Search.{Firstly, nowhere, first-at, firstly}
 use Rattle.model.proofs.Lists.{all-weak, some-weak, Met, met-none, met-one, met-in-each, met-map}
 use Rattle.sound.proofs.Order.{⊑-refl, ⊑-of, ⊑-trans, cond-⊑}
-use Rattle.sound.proofs.Embed.{Carried, Embeds, In, Pin, pin, only-eqb, Next, Aim, to-null, to-at, keep-aim}
+use Rattle.sound.specs.Embed.{Carried, Embeds, In}
+use Rattle.sound.proofs.Embed.{Pin, pin, only-eqb, Next, Aim, to-null, to-at, keep-aim}
 use Rattle.sound.proofs.Open.{opened-met}
 use Rattle.sound.proofs.Clear.{linked-met, cleared-met}
 

@@ -9,13 +9,14 @@ use borrow.Author.Tests.{eq-eqb, ne-eqb}
 use Rattle.model.specs.Finite.{Ref, null, at, null?}
 use Rattle.model.specs.Store.{Store, Proper, Op, stop, go, set-null, set-var, set-new, load, cut, store, is-null, is-same, through-null, change, with-var, with-link, with-new, through, at-point, next-stores}
 use Rattle.model.proofs.Bools.{by, clash, top-or-below}
+use Rattle.model.proofs.Search.{null-not-at}
 use Rattle.model.proofs.Lists.{All, none, also, all-map}
 use Rattle.model.proofs.Accepted.{Uses}
 
 -- ---- what a change leads to
 
 no-cell : {size : ℕ} (c : ℕ) → null ≡ at c → c < size
-no-cell c e = absurd (let z : _≡_ {A = ℕ} 0 1 = cc in omega arith)
+no-cell c e = null-not-at e
 
 -- r leads to a cell, and so does f at y
 change-low : {size : ℕ} {r : Ref} (f : ℕ → Ref) (x y : ℕ) → ((c : ℕ) → r ≡ at c → c < size) → ((c : ℕ) → f y ≡ at c → c < size) → (c : ℕ) → change x r f y ≡ at c → c < size
