@@ -31,7 +31,7 @@ abbrev pub key : ℕ → Shape → ℕ → ℕ
 key weight W a = weight * cond (W .n .shared a) 1 0 + W .mask a
 
 -- Two keys are one if mask and shared bit are, and the shared bit decides their order before the mask does: for masks
--- below the weight that is the order of the numbers (proofs/Keys), so no definition below depends on the weight.
+-- below the weight that is the order of the numbers (Keys of `sound`), so that no definition below depends on the weight.
 abbrev pub same-key : Shape → ℕ → ℕ → Bool
 same-key W a b = eqb (W .mask a) (W .mask b) && Bool·beq (W .n .shared a) (W .n .shared b)
 

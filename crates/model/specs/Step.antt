@@ -9,7 +9,7 @@ use Rattle.model.specs.Store.{Op, stop, go, set-null, set-var, set-new, 
 use Rattle.model.specs.Shape.{Links, Shape, holder}
 use Rattle.model.specs.Fold.{fold}
 
--- "A working shape has at most 11 individuals": V + 2 of the file's, and one more (proofs/Sizes shows that it suffices)
+-- "A working shape has at most 11 individuals": the V + 2 of a shape and one more (Few of `sound` shows that it suffices)
 abbrev pub edge : ℕ
 edge = 11
 

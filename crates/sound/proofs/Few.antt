@@ -1,16 +1,22 @@
 -- "So a shape has at most V + 2 individuals": each has its lowest variable, or has none and is unshared, or shared; and no two
--- have the same of these.
+-- have the same of these. So a working shape has at most 11.
 use Prim.Native.Nat.{ℕ, zero, suc, _+_, _≤_, _<_}
 use mathlib.Core.Bool.{Bool, true, false}
 use mathlib.Core.Path.{_≡_, refl, sym, _∙_}
 use native.Mathlib.Omega.{arith}
 use Rattle.model.specs.Finite.{Ref, null, at, first, bit}
+use Rattle.model.specs.Store.{Op}
 use Rattle.model.specs.Shape.{Shape, Allowed}
+use Rattle.model.specs.Step.{edge, results}
+use Rattle.model.specs.Format.{version-1}
 use Rattle.model.proofs.Bools.{clash, by}
 use Rattle.model.proofs.Search.{Firstly, nowhere, first-at, firstly}
+use Rattle.model.proofs.Lists.{All, all-weak}
 use Rattle.model.proofs.Masks.{no-bits}
+use Rattle.model.proofs.Accepted.{Uses}
 use Rattle.sound.proofs.Keys.{Keyed, ascend-keyed}
 use Rattle.sound.proofs.Pigeons.{few}
+use Rattle.sound.proofs.Shapes.{results-small}
 
 module _ (vars : ℕ) (W : Shape) (h : Allowed vars W) where
   keyed : Keyed W
@@ -59,3 +65,8 @@ module _ (vars : ℕ) (W : Shape) (h : Allowed vars W) where
       refl
       refl
       e)
+
+-- "A working shape has at most 11 individuals"
+pub results-edge : (vars : ℕ) → vars ≤ version-1 .vars → (W : Shape) → Allowed vars W → (o : Op) → Uses vars o → All (λ r. r .1 .size ≤ edge) (results o W)
+results-edge vars l W h o u =
+    all-weak (λ r k. let z = allowed-few vars W h in omega arith) (results-small vars W (h .held) o u)
