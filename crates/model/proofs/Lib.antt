@@ -6,4 +6,5 @@ pub mod Masks
 pub mod Tables
 pub mod Fields
 pub mod Accepted
+pub mod Verdicts
 pub mod Worked

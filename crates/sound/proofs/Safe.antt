@@ -16,6 +16,7 @@ use Rattle.model.proofs.Bools.{by, clash, not-true}
 use Rattle.model.proofs.Search.{null-not-at, every-elim}
 use Rattle.model.proofs.Lists.{All, all-some, all-zip}
 use Rattle.model.proofs.Accepted.{Uses}
+use Rattle.model.proofs.Verdicts.{low-few}
 use Rattle.sound.proofs.Keys.{ascend-keyed}
 use Rattle.sound.proofs.Fit.{fits-null, fits-unshared}
 use Rattle.sound.specs.Shown.{Sound, Marked, Marks-hold}
@@ -25,10 +26,6 @@ use Rattle.sound.proofs.Accepts.{listed-test, listed-none, accepted-sou
 -- ---- the bytes
 
 module _ (C : Claim) (p : ℕ) where
-  low-few : (r : Ref) → low-part C p r ≤ 2
-  low-few null = omega arith
-  low-few (at x) = by (all-listed C p (λ T. not (null? (holder T x)))) (λ q. rw q (omega arith)) (λ q. rw q (omega arith))
-
   abbrev low : ℕ
   low = low-part C p (goes-through (C .op p))
 
@@ -43,7 +40,7 @@ module _ (C : Claim) (p : ℕ) where
       by (lists-some C p)
       (λ q.
       let b = byte-is q in
-      let l = low-few (goes-through (C .op p)) in
+      let l = low-few C p (goes-through (C .op p)) in
       by (all-listed C p none-shared) (λ a. absurd (let z = rw a at b in omega arith)) (λ a. absurd (let z = rw a at b in omega arith)))
       (λ q. q)
 
@@ -51,12 +48,12 @@ module _ (C : Claim) (p : ℕ) where
   byte-4 : lists-some C p ≡ true → answer-byte C p / 4 % 2 ≡ 1 → all-listed C p none-shared ≡ true
   byte-4 q e =
       by (all-listed C p none-shared) (λ a. a) (λ a.
-      absurd (let z = rw a at (byte-is q) in let l = low-few (goes-through (C .op p)) in omega arith))
+      absurd (let z = rw a at (byte-is q) in let l = low-few C p (goes-through (C .op p)) in omega arith))
 
   -- low part 1: every listed shape has the variable set
   byte-1 : lists-some C p ≡ true → answer-byte C p % 4 ≡ 1 → low ≡ 1
   byte-1 q e =
-      let l = low-few (goes-through (C .op p)) in
+      let l = low-few C p (goes-through (C .op p)) in
       by (all-listed C p none-shared) (λ a. let z = rw a at (byte-is q) in omega arith) (λ a. let z = rw a at (byte-is q) in omega arith)
 
   low-1 : (x : ℕ) → low-part C p (at x) ≡ 1 → all-listed C p (λ T. not (null? (holder T x))) ≡ true
