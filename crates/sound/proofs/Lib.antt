@@ -24,4 +24,5 @@ pub mod Few
 pub mod OneStep
 pub mod Runs
 pub mod Accepts
+pub mod Marks
 pub mod Safe
