@@ -14,10 +14,15 @@ use Rattle.model.specs.Claim.{Claim, claim}
 -- ---- the table of answers
 
 pub data Verdict : Type 0 where
+  -- 0: M, "points whose low part is 2"
   accepted : ℕ → ℕ → Verdict
+  -- 1 to 6: what is wrong, and where
   unreadable : Fault → ℕ → Verdict
+  -- 7 "no shape at point 0"
   no-entry : Verdict
+  -- 9 "answer buffer shorter than N": N
   short-buffer : ℕ → Verdict
+  -- 8 "a result not covered at the successor": "shape number", "successor"
   uncovered : ℕ → ℕ → Verdict
 
 pub record Answer : Type 0 where
