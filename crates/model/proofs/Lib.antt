@@ -5,4 +5,5 @@ pub mod Lists
 pub mod Masks
 pub mod Tables
 pub mod Fields
+pub mod Accepted
 pub mod Worked
