@@ -19,14 +19,18 @@ zeros = replicate 513 0
 abbrev pub nothing : Reading → Claim
 nothing r = record { reading = r; vars = 0; points = 0; shapes = 0; starts = zeros }
 
--- one that isn't: V, N, M, where each record starts and where the last one ends; beyond that 0
+-- where each record starts and where the last one ends; beyond that 0
+abbrev pub starts-of : Format → List ℕ → List ℕ
+starts-of F f = table (start F f) (model.shapes f + 1) ++ drop (model.shapes f + 1) zeros
+
+-- one that isn't hands on V, N, M and those places
 abbrev pub everything : Format → List ℕ → Claim
 everything F f = record {
   reading = Fine;
   vars = model.vars f;
   points = model.points f;
   shapes = model.shapes f;
-  starts = table (start F f) (model.shapes f + 1) ++ drop (model.shapes f + 1) zeros;
+  starts = starts-of F f;
 }
 
 abbrev pub handed-on : Format → List ℕ → Reading → Claim
@@ -38,11 +42,11 @@ pub record Reads (F : Format) (f : List ℕ) (R : model.Reading) (r : Claim) : T
   pub reading : reading-of (r .reading) ≡ R
   pub rest : r ≡ handed-on F f (r .reading)
 
--- what the fields before the records have shown
-pub record Headed (F : Format) (f : List ℕ) (vars points shapes first : ℕ) : Type 0 where
-  pub vars : vars ≡ model.vars f
-  pub points : points ≡ model.points f
-  pub shapes : shapes ≡ model.shapes f
-  pub first : first ≡ start F f 0
-  pub low : vars ≤ F .vars
-  pub few : shapes ≤ F .shapes
+-- what the fields before the records have shown: v, n and m are V, N and M, and the records start at `first`
+pub record Headed (F : Format) (f : List ℕ) (v n m first : ℕ) : Type 0 where
+  pub vars : v ≡ model.vars f
+  pub points : n ≡ model.points f
+  pub shapes : m ≡ model.shapes f
+  pub first-is : first ≡ start F f 0
+  pub vars-low : v ≤ F .vars
+  pub shapes-few : m ≤ F .shapes

@@ -1,7 +1,7 @@
 // One field of the file: a number of some bytes, and what becomes of it.
 ghost use mathlib.Core.Path.{_≡_};
 ghost use Prim.Native.Nat.{_≤_, _<_};
-ghost use Rattle.model.specs.File.{_then_, byte, number, field};
+ghost use Rattle.model.specs.File.{_then_, byte, number, within, field};
 ghost use Rattle.claim.specs.Answers.{fault-of, reading-of};
 
 // What can be wrong with a file: refusals 1 to 6.
@@ -25,10 +25,10 @@ impl Reading {
     pub fn then(self, next: Reading) -> Reading
         ensures { λ r. ⌜ reading-of r ≡ reading-of self then reading-of next ⌝ }
     {
-        match self {
-            Reading::Fine => next,
-            Reading::Refused(fault, place) => Reading::Refused(fault, place),
-        }
+        let Reading::Fine = self else {
+            return self;
+        };
+        next
     }
 }
 
@@ -64,6 +64,13 @@ pub fn number(file: &[u8], place: usize, width: usize) -> usize
         return 0;
     }
     low + 256 * byte(file, place + 1)
+}
+
+// From low to high.
+pub fn within(low: usize, v: usize, high: usize) -> bool
+    ensures { λ r. ⌜ r ≡ within low v high ⌝ }
+{
+    (low <= v) & (v <= high)
 }
 
 // A field of so many bytes at a place, which is right or not.

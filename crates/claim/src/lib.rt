@@ -1,16 +1,21 @@
 // The claim file, read a field at a time: refusals 1 to 6 with their places, where each record starts, and the part of
 // the file that holds a record. One pass over the bytes.
 ghost use mathlib.Core.Path.{_≡_};
-ghost use Prim.Native.Nat.{_≤_};
 ghost use Rattle.format.specs.Meaning.{meaning, Sized};
-ghost use Rattle.model.specs.File.{_then_, within, marked, preamble, head, shape-records, ended, body, reading, handed-back};
+ghost use Rattle.model.specs.Format.{format};
+ghost use Rattle.model.specs.File.{_then_, version, marked, preamble, head, shape-records, ended, body, reading, handed-back};
 ghost use Rattle.claim.specs.Answers.{reading-of};
 ghost use Rattle.claim.specs.Reads.{Headed, Reads, nothing};
-
+use crate::fields::Fault;
+use crate::fields::Reading;
+use crate::fields::byte;
+use crate::fields::field;
+use crate::fields::number;
+use crate::fields::within;
+use crate::program::program;
+use crate::shapes::past;
+use crate::shapes::shape;
 use format::Format;
-use fields::{Fault, Reading, byte, number, field};
-use program::program;
-use shapes::{shape, past};
 
 pub mod fields;
 mod program;
@@ -37,21 +42,10 @@ fn refused(reading: Reading) -> Claim
     }
 }
 
-fn within(low: usize, v: usize, high: usize) -> bool
-    ensures { λ r. ⌜ r ≡ within low v high ⌝ }
-{
-    if low <= v { v <= high } else { false }
-}
-
 fn marked(file: &[u8]) -> bool
     ensures { λ r. ⌜ r ≡ marked (now (file .entry)) ⌝ }
 {
-    if byte(file, 0) == 83 {
-        if byte(file, 1) == 72 {
-            return byte(file, 2) == 67;
-        }
-    }
-    false
+    (byte(file, 0) == 83) & ((byte(file, 1) == 72) & (byte(file, 2) == 67))
 }
 
 // Mark and version.
@@ -59,7 +53,13 @@ fn preamble(file: &[u8]) -> Reading
     ensures { λ r. ⌜ reading-of r ≡ preamble (now (file .entry)) ⌝ }
 {
     let mark = field(file, 0, 3, Fault::WrongMark, marked(file));
-    let version = field(file, 3, 2, Fault::WrongVersion, Format::known(number(file, 3, 2)));
+    let version = field(
+        file,
+        3,
+        2,
+        Fault::WrongVersion,
+        Format::known(number(file, 3, 2)),
+    );
     mark.then(version)
 }
 
@@ -67,13 +67,32 @@ fn preamble(file: &[u8]) -> Reading
 fn head(form: Format, file: &[u8]) -> Reading
     ensures { λ r. ⌜ reading-of r ≡ head (meaning form) (now (file .entry)) ⌝ }
 {
-    let vars = field(file, 5, 1, Fault::BeyondLimit, within(0, byte(file, 5), form.vars));
-    let points = field(file, 6, 1, Fault::BeyondLimit, within(1, byte(file, 6), form.points));
+    let vars = field(
+        file,
+        5,
+        1,
+        Fault::BeyondLimit,
+        within(0, byte(file, 5), form.vars),
+    );
+    let points = field(
+        file,
+        6,
+        1,
+        Fault::BeyondLimit,
+        within(1, byte(file, 6), form.points),
+    );
     vars.then(points)
 }
 
 // The shape records, the first of which starts at `first`; nothing follows.
-fn records(form: Format, file: &[u8], vars: usize, points: usize, shapes: usize, first: usize) -> Claim
+fn records(
+    form: Format,
+    file: &[u8],
+    vars: usize,
+    points: usize,
+    shapes: usize,
+    first: usize,
+) -> Claim
     requires { ⌜ Sized form ⌝ }
     requires { ⌜ Headed (meaning form) (now file) vars points shapes first ⌝ }
     ensures { λ r. ⌜ Reads (meaning form) (now (file .entry)) (shape-records (meaning form) (now (file .entry)) then ended (meaning form) (now (file .entry))) r ⌝ }
@@ -120,7 +139,13 @@ fn body(form: Format, file: &[u8]) -> Claim
     };
     let place = 7 + 5 * points;
     let shapes = number(file, place, 2);
-    let count = field(file, place, 2, Fault::BeyondLimit, within(0, shapes, form.shapes));
+    let count = field(
+        file,
+        place,
+        2,
+        Fault::BeyondLimit,
+        within(0, shapes, form.shapes),
+    );
     let Reading::Fine = count else {
         return refused(count);
     };
