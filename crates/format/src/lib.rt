@@ -1,8 +1,8 @@
 // A version of the claim file by value: its limits and widths. Reader, engine and checker take one, and have no limit of
 // their own, so that a later version is a further value.
 ghost use mathlib.Core.Path.{_≡_};
-ghost use Rattle.format.specs.Meaning.{meaning};
-ghost use Rattle.model.specs.Format.{version-1};
+ghost use Rattle.format.specs.Meaning.{meaning, Sized};
+ghost use Rattle.model.specs.Format.{version-1, known, format};
 
 pub struct Format {
     // V is at most this; N is from 1 to this; M is at most this
@@ -22,8 +22,23 @@ pub struct Format {
 }
 
 impl Format {
+    // The versions that there are, and the format of each.
+    pub fn known(version: usize) -> bool
+        ensures { λ r. ⌜ r ≡ known version ⌝ }
+    {
+        version == 1
+    }
+
+    pub fn of(version: usize) -> Format
+        ensures means { λ r. ⌜ meaning r ≡ format version ⌝ }
+        ensures fits { λ r. ⌜ Sized r ⌝ }
+    {
+        Format::version_1()
+    }
+
     pub fn version_1() -> Format
-        ensures { λ r. ⌜ meaning r ≡ version-1 ⌝ }
+        ensures means { λ r. ⌜ meaning r ≡ version-1 ⌝ }
+        ensures fits { λ r. ⌜ Sized r ⌝ }
     {
         Format {
             vars: 8,

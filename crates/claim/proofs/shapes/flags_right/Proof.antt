@@ -1,0 +1,13 @@
+use mathlib.Core.Path.{refl}
+use borrow.Author.Needs.{needs}
+use Rattle.claim.proofs.shapes.flags_right.Statement.{statement}
+use Rattle.claim.proofs.shapes.flags_right.Tie as tie
+
+plain-requires : tie.Need-plain-requires
+plain-requires c κs = search needs
+
+returns : tie.Need-returns
+returns c = rw (c .plain .ensures) refl
+
+pub flags-right-spec : {M : Type 1} → statement M
+flags-right-spec = tie.close (tie.spec plain-requires returns)

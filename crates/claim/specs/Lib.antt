@@ -1,0 +1,3 @@
+-- What the reader's answers mean.
+pub mod Answers
+pub mod Reads
