@@ -1,0 +1,6 @@
+-- Laws that the proofs of several functions cite.
+pub mod Truths
+pub mod Tests
+pub mod Grid
+pub mod Entries
+pub mod MaskBits
