@@ -4,3 +4,5 @@ pub mod Tests
 pub mod Grid
 pub mod Entries
 pub mod MaskBits
+pub mod Lookups
+pub mod Stages

@@ -1,35 +1,44 @@
+use mathlib.Core.Path.{_∙_, _≡_}
+use native.Mathlib.Omega.{arith}
 use borrow.Author.Needs.{needs}
+use borrow.Author.Tests.{eq-eqb, ne-eqb}
+use lib.ListN.{length}
+use Rattle.model.specs.Finite.{is}
+use Rattle.shape.proofs.Entries.{shared-at}
+use Rattle.shape.proofs.Stages.{settled-shared, settled-unshared}
+use Rattle.shape.specs.Meaning.{cells, grid, meaning}
 use Rattle.shape.proofs.opening.settle.Statement.{statement}
 use Rattle.shape.proofs.opening.settle.Tie as tie
-use Rattle.shape.proofs.opening.settle.Reads as reads
-use Rattle.shape.proofs.opening.settle.Lts as lts
-use Rattle.shape.proofs.links.one_into.Reads as one-into-reads
-use Rattle.shape.proofs.links.some_into.Reads as some-into-reads
-use Rattle.shape.proofs.links.sure_column.Reads as sure-column-reads
 
--- src/opening.rt:60:8
 element-copy-out-if1 : tie.Need-element-copy-out-if1
 element-copy-out-if1 c = search needs
 
--- src/opening.rt:61:13
 some-into-requires : tie.Need-some-into-requires
 some-into-requires c κs = search needs
 
--- src/opening.rt:62:9
 returns : tie.Need-returns
-returns c = search needs
+returns c = 
+    let a = c .before .before .before .before .before .args in
+    record {
+      is = settled-shared (meaning (a .t1)) (a .u) (a .t) (shared-at (a .t1 .flags) (a .t) ∙ eq-eqb _ _ (c .before .before .before .if1 .taken)) (c .some-into .ensures);
+      size = omega arith;
+      low = omega arith;
+    }
 
--- src/opening.rt:64:18
 one-into-requires : tie.Need-one-into-requires
 one-into-requires c κs = search needs
 
--- src/opening.rt:66:5
 sure-column-requires : tie.Need-sure-column-requires
-sure-column-requires c κs = search needs
+sure-column-requires c κs = let a = c .before .before .before .before .before .before .args in let z : length (a .t1 .links) ≡ cells = search needs in (z, omega arith)
 
--- src/opening.rt:55:1
 returns-2 : tie.Need-returns-2
-returns-2 c = search needs
+returns-2 c = 
+    let a = c .before .before .before .before .before .before .before .args in
+    record {
+      is = settled-unshared (meaning (a .t1)) (a .u) (a .t) (grid (c .sure-column .last .0)) (shared-at (a .t1 .flags) (a .t) ∙ ne-eqb _ _ (c .before .before .before .before .before .if1 .left)) (c .before .before .one-into .ensures) (c .sure-column .ensures .says);
+      size = omega arith;
+      low = omega arith;
+    }
 
 pub settle-spec : {M : Type 1} → statement M
 settle-spec =

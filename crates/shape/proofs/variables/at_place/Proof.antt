@@ -1,22 +1,18 @@
+use mathlib.Core.Path.{_≡_}
 use borrow.Author.Needs.{needs}
+use Rattle.shape.specs.declared.Place.the-variants.{At}
 use Rattle.shape.proofs.variables.at_place.Statement.{statement}
 use Rattle.shape.proofs.variables.at_place.Tie as tie
-use Rattle.shape.proofs.variables.at_place.Reads as reads
-use Rattle.shape.proofs.variables.at_place.Lts as lts
 
--- src/variables.rt:41:19
 enum-known-p : tie.Need-enum-known-p
 enum-known-p c = search needs
 
--- src/variables.rt:42:24
 enum-told : tie.Need-enum-told
 enum-told c = search needs
 
--- src/variables.rt:37:1
 returns : tie.Need-returns
-returns c = search needs
+returns c = let a = c .before .before .before .args in let e : At (c .before .p .given .0 .0) ≡ a .p = cc in rw (← e)
 
--- src/variables.rt:37:1
 returns-2 : tie.Need-returns-2
 returns-2 c = search needs
 
