@@ -6,3 +6,5 @@ pub mod Entries
 pub mod MaskBits
 pub mod Lookups
 pub mod Stages
+pub mod Orders
+pub mod Merging

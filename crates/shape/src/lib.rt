@@ -8,7 +8,7 @@ pub mod variables;
 pub mod opening;
 pub mod clearing;
 pub mod linking;
-// pub mod folding;
+pub mod folding;
 // pub mod stepping;
 // pub mod records;
 // pub mod covering;
