@@ -8,3 +8,5 @@ pub mod Lookups
 pub mod Stages
 pub mod Orders
 pub mod Merging
+pub mod Folded
+pub mod ByKeys
