@@ -6,6 +6,8 @@ pub mod Entries
 pub mod MaskBits
 pub mod Lookups
 pub mod Stages
+pub mod Places
+pub mod Numbered
 pub mod Orders
 pub mod Merging
 pub mod Folded

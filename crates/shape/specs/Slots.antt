@@ -1,15 +1,17 @@
 -- The results of opening, clearing and linking one by one: at a place number one result, if it is given, or none.
 -- proofs/Places shows that in the order of the places they are the lists of the definitions.
-use Prim.Native.Nat.{ℕ, zero, suc, _+_, _-_, _*_, _/_, _%_}
+use Prim.Native.Nat.{ℕ, zero, suc, _+_, _-_, _*_, _/_, _%_, _≤_}
 use mathlib.Core.Bool.{Bool, true, false, cond, not}
 use mathlib.Core.List.{List, [], _∷_, map}
-use lib.Dec.{eqb}
+use mathlib.Core.Path.{_≡_}
+use lib.Dec.{eqb, ltb}
 use Rattle.model.specs.Truth.{𝟘, 𝟙, may, must}
 use Rattle.model.specs.Finite.{Ref, null, at, null?, equal, any, given, in-each}
 use Rattle.model.specs.Store.{Op, stop, go, set-null, set-var, set-new, load, cut, store, is-null, is-same, at-point}
 use Rattle.model.specs.Shape.{Shape, holder}
-use Rattle.model.specs.Step.{Opened, no-target, with-n, into, sharing, from-u, all-zero, whole, divided, settled, possible, divides, now-unshared, still-shared, moved, fresh, at-holder, folded-result}
-use Rattle.shape.specs.Meaning.{trimmed-result}
+use Rattle.model.specs.Step.{edge, Opened, no-target, with-n, into, sharing, from-u, all-zero, whole, divided, settled, possible, divides, now-unshared, still-shared, moved, fresh, at-holder, folded-result}
+use Rattle.shape.specs.Meaning.{meaning, trimmed, trimmed-result}
+use Rattle.shape.specs.declared.Outcome.{Outcome}
 
 -- ---- opening
 
@@ -58,6 +60,16 @@ store-slot W u y j = in-each (link-slot (eqb (j % 2) 1) u y) (clear-slot W u (j 
 abbrev pub load-slot : Shape → ℕ → ℕ → ℕ → List Shape
 load-slot W u x j = map (λ o. moved (o .shape) x (o .target)) (open-slot W u j)
 
+-- ---- ops 5 to 7 by their numbers
+
+abbrev pub through-slot : ℕ → ℕ → ℕ → Shape → ℕ → List Shape
+through-slot op x y W j =
+    cond (eqb op 5)
+    (at-holder (holder W y) (λ u. load-slot W u x j))
+    (cond (eqb op 6)
+    (at-holder (holder W x) (λ u. clear-slot W u j))
+    (at-holder (holder W x) (λ u. store-slot W u (holder W y) j)))
+
 -- ---- a statement: how many places it has, and the result at each
 
 abbrev pub places : Op → ℕ → ℕ
@@ -71,6 +83,13 @@ places (cut x s) n = 2 * suc (2 * n)
 places (store x y s) n = 2 * (2 * suc (2 * n))
 places (is-null x s₁ s₂) n = 1
 places (is-same x y s₁ s₂) n = 1
+
+-- the same by the number of the op (proofs/Numbered)
+abbrev pub places-of : ℕ → ℕ → ℕ
+places-of op n =
+    cond (eqb op 5) (suc (2 * n))
+    (cond (eqb op 6) (2 * suc (2 * n))
+    (cond (eqb op 7) (2 * (2 * suc (2 * n))) (cond (ltb op 1) 0 (cond (ltb op 10) 1 0))))
 
 abbrev pub result-slot : Op → Shape → ℕ → List (ℕ × Shape)
 result-slot stop W j = []
@@ -87,3 +106,12 @@ result-slot (is-same x y s₁ s₂) W j = (cond (equal (holder W x) (holder W y)
 -- folded, and nothing beyond its individuals
 abbrev pub outcome-slot : Op → Shape → ℕ → List (ℕ × Shape)
 outcome-slot o W j = map trimmed-result (map folded-result (result-slot o W j))
+
+-- the list of the one outcome that is given, or the empty list
+abbrev pub out : Outcome → List (ℕ × Shape)
+out o = given (o .given) (o .successor, trimmed (meaning (o .shape)))
+
+-- o is what the list l has, and stays within the edge
+pub record Yields (l : List (ℕ × Shape)) (o : Outcome) : Type 0 where
+  pub is : out o ≡ l
+  pub size : o .shape .n ≤ edge

@@ -9,7 +9,7 @@ pub mod opening;
 pub mod clearing;
 pub mod linking;
 pub mod folding;
-// pub mod stepping;
+pub mod stepping;
 // pub mod records;
 // pub mod covering;
 
@@ -38,6 +38,13 @@ pub struct Shape {
 pub enum Place {
     At(usize),
     Null,
+}
+
+// An outcome of a step: given or not, where it goes on, and the folded shape.
+pub struct Outcome {
+    pub given: bool,
+    pub successor: usize,
+    pub shape: Shape,
 }
 
 impl Shape {
