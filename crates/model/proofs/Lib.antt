@@ -3,6 +3,7 @@ pub mod Bools
 pub mod Search
 pub mod Lists
 pub mod Masks
+pub mod Firsts
 pub mod Tables
 pub mod Fields
 pub mod Accepted
