@@ -12,3 +12,4 @@ pub mod Orders
 pub mod Merging
 pub mod Folded
 pub mod ByKeys
+pub mod Recorded

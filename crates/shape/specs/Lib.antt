@@ -2,3 +2,4 @@
 pub mod Meaning
 pub mod Slots
 pub mod Keys
+pub mod Records

@@ -10,8 +10,8 @@ pub mod clearing;
 pub mod linking;
 pub mod folding;
 pub mod stepping;
-// pub mod records;
-// pub mod covering;
+pub mod records;
+pub mod covering;
 
 ghost use mathlib.Core.Path.{_≡_};
 ghost use Prim.Native.Nat.{_<_};
