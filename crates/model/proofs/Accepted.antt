@@ -370,7 +370,7 @@ module _ (F : Format) (f : List ℕ) (e : body F f ≡ fine) where
   unfolding body
   count-fine = then-left _ _ (then-right _ _ (then-right _ _ e))
 
-  point-fine : (p : ℕ) → p < points f → point-record F f (vars f) (points f) (point-at p) ≡ fine
+  pub point-fine : (p : ℕ) → p < points f → point-record F f (vars f) (points f) (point-at p) ≡ fine
   unfolding body point-records
   point-fine p h = in-turn-each _ (points f) (then-left _ _ (then-right _ _ e)) p h
 

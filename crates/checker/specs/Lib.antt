@@ -1,0 +1,3 @@
+-- What the checker's functions know, and what their answers mean.
+pub mod Laid
+pub mod Meaning
