@@ -32,6 +32,10 @@ any-none n p e a h = false-of (λ q. clash (any-intro n p a h q) e)
 pub none-any : (n : ℕ) (p : ℕ → Bool) → ((a : ℕ) → a < n → p a ≡ true → ⊥) → any n p ≡ false
 none-any n p f = false-of (λ q. let r = any-elim n p q in f (r .0) (r .1) (r .2))
 
+pub any-cong : (n : ℕ) (p q : ℕ → Bool) → ((a : ℕ) → a < n → p a ≡ q a) → any n p ≡ any n q
+any-cong zero p q f = refl
+any-cong (suc n) p q f = ap₂ _||_ (any-cong n p q (λ a h. f a (omega arith))) (f n (omega arith))
+
 -- ---- every number below n
 
 pub every-elim : (n : ℕ) (p : ℕ → Bool) → every n p ≡ true → (a : ℕ) → a < n → p a ≡ true
@@ -44,6 +48,10 @@ every-elim (suc n) p e a h =
 pub every-intro : (n : ℕ) (p : ℕ → Bool) → ((a : ℕ) → a < n → p a ≡ true) → every n p ≡ true
 every-intro zero p f = refl
 every-intro (suc n) p f = and-both (every-intro n p (λ a h. f a (omega arith))) (f n (omega arith))
+
+pub every-cong : (n : ℕ) (p q : ℕ → Bool) → ((a : ℕ) → a < n → p a ≡ q a) → every n p ≡ every n q
+every-cong zero p q f = refl
+every-cong (suc n) p q f = ap₂ _&&_ (every-cong n p q (λ a h. f a (omega arith))) (f n (omega arith))
 
 -- ---- how many
 

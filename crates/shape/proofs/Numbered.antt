@@ -1,19 +1,20 @@
 -- Statements by the numbers of their ops.
-use Prim.Native.Nat.{ℕ, zero, suc, _*_, _/_, _<_, _≤_}
-use mathlib.Core.Bool.{Bool, true, false, cond}
-use mathlib.Core.List.{List, [], _∷_}
+use Prim.Native.Nat.{ℕ, zero, suc, _+_, _-_, _*_, _/_, _%_, _<_, _≤_}
+use mathlib.Core.Bool.{Bool, true, false, cond, not, _&&_}
+use mathlib.Core.List.{List, [], _∷_, map}
 use mathlib.Core.Logic.{_≢_}
 use mathlib.Core.Path.{_≡_, refl, sym, ap, _∙_}
 use native.Mathlib.Omega.{arith}
 use lib.Dec.{eqb, ltb}
 use borrow.Author.Tests.{eqb-true, eqb-false, eq-eqb, ne-eqb, lt-ltb, le-ltb}
-use Rattle.model.specs.Finite.{Ref, null, null?, equal}
+use Rattle.model.specs.Finite.{Ref, null, at, null?, equal, any, in-each}
 use Rattle.model.specs.Store.{Op, stop, at-point}
 use Rattle.model.specs.Shape.{Shape, holder}
-use Rattle.model.specs.Step.{moved, fresh}
+use Rattle.model.specs.Truth.{must}
+use Rattle.model.specs.Step.{Opened, whole, divided, settled, possible, divides, at-holder, moved, fresh}
 use Rattle.model.specs.Claim.{op-of}
-use Rattle.model.proofs.Bools.{by}
-use Rattle.shape.specs.Slots.{places, places-of, through-slot, result-slot}
+use Rattle.model.proofs.Bools.{by, clash, not-true}
+use Rattle.shape.specs.Slots.{opens, open-slot, unlink-slot, link-slot, load-slot, clear-slot, store-slot, shut, closed, places, places-of, through-slot, result-slot}
 
 -- there are ten ops
 pub by-op : (P : ℕ → Type 0) → P 0 → P 1 → P 2 → P 3 → P 4 → P 5 → P 6 → P 7 → P 8 → P 9 → ((o : ℕ) → 9 < o → P o) → (o : ℕ) → P o
@@ -82,3 +83,63 @@ cut-places o n j e h = let z : j < 2 * suc (2 * n) = rw e at h in omega arith
 
 pub store-places : (o n j : ℕ) → o ≡ 7 → j < places-of o n → j / 2 / 2 ≤ 2 * n
 store-places o n j e h = let z : j < 2 * (2 * suc (2 * n)) = rw e at h in omega arith
+
+-- ---- places without a result
+
+-- nothing is opened where the first look says no
+not-opens : (W : Shape) (u j : ℕ) → opens W u j ≡ false → open-slot W u j ≡ []
+not-opens W u j e =
+    by (eqb j 0)
+    (λ q. let p : not (any (W .size) (λ b. must (W .n .link u b))) ≡ false = rw q at e in rw (q, p))
+    (λ q.
+    let v = (j + 1) / 2 - 1 in
+    by (eqb (j % 2) 1)
+    (λ y.
+    let p : possible W u v ≡ false = rw (q, y) at e in
+    let o = eqb-true (j % 2) 1 y in
+    rw (q, ne-eqb (j % 2) 0 (λ z. omega arith), p))
+    (λ y.
+    let p : (divides W u v && possible W u v) ≡ false = rw (q, y) at e in
+    let o : j % 2 ≢ 1 = eqb-false (j % 2) 1 y in
+    rw (q, eq-eqb (j % 2) 0 (omega arith)) (neither (divides W u v) (possible W u v) (settled (whole (divided W v) u v) u v) p)))
+  where
+    neither : (d p : Bool) (l : List Opened) → (d && p) ≡ false → cond p (cond d l []) [] ≡ []
+    neither true true l e = clash refl e
+    neither true false l e = refl
+    neither false true l e = refl
+    neither false false l e = refl
+
+pub closed-through : (o x y : ℕ) (W : Shape) (j : ℕ) → closed o x y W j ≡ true → through-slot o x y W j ≡ []
+closed-through o x y W j e =
+    by (eqb o 5)
+    (λ q. rw q (held (holder W y) (λ u. opens W u j) (λ u. load-slot W u x j) (λ u p. ap (map (λ o. moved (o .shape) x (o .target))) (not-opens W u j p)) (rw q at e)))
+    (λ q.
+    by (eqb o 6)
+    (λ y. rw (q, y)
+    (held (holder W x) (λ u. opens W u (j / 2)) (λ u. clear-slot W u j)
+    (λ u p. ap (in-each (λ o. unlink-slot (eqb (j % 2) 1) u (o .shape) (o .target))) (not-opens W u (j / 2) p)) (rw (q, y) at e)))
+    (λ z. rw (q, z)
+    (held (holder W x) (λ u. opens W u (j / 2 / 2)) (λ u. store-slot W u (holder W y) j)
+    (λ u p.
+    ap (λ (l : List Opened). in-each (link-slot (eqb (j % 2) 1) u (holder W y)) (in-each (λ o. unlink-slot (eqb (j / 2 % 2) 1) u (o .shape) (o .target)) l)) (not-opens W u (j / 2 / 2) p)) (rw (q, z) at e))))
+  where
+    held : (r : Ref) (t : ℕ → Bool) (f : ℕ → List Shape) → ((u : ℕ) → t u ≡ false → f u ≡ []) → shut r (λ u. not (t u)) ≡ true → at-holder r f ≡ []
+    held null t f g e = refl
+    held (at u) t f g e = g u (not-true e)
+
+-- the variable that is gone through is one of the two, and its opening has this place
+pub either : (b : Bool) {x y v : ℕ} → y < 16 → x < 16 → v ≡ cond b y x → v < 16
+either true h k e = omega arith
+either false h k e = omega arith
+
+pub opening-low : (o n j : ℕ) → 4 < o → o < 8 → j < places-of o n → cond (eqb o 5) j (cond (eqb o 6) (j / 2) (j / 2 / 2)) ≤ 2 * n
+opening-low o n j h k l =
+    by (eqb o 5)
+    (λ q. rw q (load-places o n j (eqb-true o 5 q) l))
+    (λ q.
+    by (eqb o 6)
+    (λ y. rw (q, y) (cut-places o n j (eqb-true o 6 y) l))
+    (λ y.
+    let d : o ≢ 5 = eqb-false o 5 q in
+    let f : o ≢ 6 = eqb-false o 6 y in
+    rw (q, y) (store-places o n j (omega arith) l)))

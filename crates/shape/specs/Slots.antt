@@ -1,7 +1,7 @@
 -- The results of opening, clearing and linking one by one: at a place number one result, if it is given, or none.
 -- proofs/Places shows that in the order of the places they are the lists of the definitions.
 use Prim.Native.Nat.{ℕ, zero, suc, _+_, _-_, _*_, _/_, _%_, _≤_}
-use mathlib.Core.Bool.{Bool, true, false, cond, not}
+use mathlib.Core.Bool.{Bool, true, false, cond, not, _&&_}
 use mathlib.Core.List.{List, [], _∷_, map}
 use mathlib.Core.Path.{_≡_}
 use lib.Dec.{eqb, ltb}
@@ -23,6 +23,15 @@ target W u v true = cond (possible W u v) (cond (divides W u v) (settled (whole 
 -- 0 without target; 1 + 2 v with v whole, 2 + 2 v with v divided
 abbrev pub open-slot : Shape → ℕ → ℕ → List Opened
 open-slot W u j = cond (eqb j 0) (no-target W u) (target W u ((j + 1) / 2 - 1) (eqb (j % 2) 0))
+
+-- what is asked before anything is built: place j has no result where this fails
+abbrev pub opens : Shape → ℕ → ℕ → Bool
+opens W u j =
+    cond (eqb j 0)
+    (not (any (W .size) (λ b. must (W .n .link u b))))
+    (cond (eqb (j % 2) 1)
+    (possible W u ((j + 1) / 2 - 1))
+    (divides W u ((j + 1) / 2 - 1) && possible W u ((j + 1) / 2 - 1)))
 
 -- ---- clearing: first the result with t unshared, then the one with t still shared
 
@@ -69,6 +78,16 @@ through-slot op x y W j =
     (cond (eqb op 6)
     (at-holder (holder W x) (λ u. clear-slot W u j))
     (at-holder (holder W x) (λ u. store-slot W u (holder W y) j)))
+
+-- null, or an individual for which the test holds
+abbrev pub shut : Ref → (ℕ → Bool) → Bool
+shut null f = true
+shut (at u) f = f u
+
+-- ops 5 to 7 have no result at place j where this holds
+abbrev pub closed : ℕ → ℕ → ℕ → Shape → ℕ → Bool
+closed op x y W j =
+    shut (holder W (cond (eqb op 5) y x)) (λ u. not (opens W u (cond (eqb op 5) j (cond (eqb op 6) (j / 2) (j / 2 / 2)))))
 
 -- ---- a statement: how many places it has, and the result at each
 

@@ -8,8 +8,8 @@ ghost use Rattle.model.specs.Truth.{truth, may, half, must};
 ghost use Rattle.model.specs.Finite.{any};
 ghost use Rattle.model.specs.Step as S;
 ghost use Rattle.model.specs.Step.{edge};
-ghost use Rattle.shape.specs.Meaning.{meaning, grid, Opens};
-ghost use Rattle.shape.specs.Slots.{open-slot};
+ghost use Rattle.shape.specs.Meaning.{made, meaning, summary, shared, grid, Opens};
+ghost use Rattle.shape.specs.Slots.{open-slot, opens};
 
 use super::{CELLS, EDGE, Place, Shape};
 use super::links;
@@ -84,6 +84,24 @@ fn divides(f: u8, v: u8) -> bool
 {
     if f / 2 % 2 == 1 {
         return Truth(v).half();
+    }
+    false
+}
+
+// Whether place j can have a result: a look that costs no copy of the shape.
+pub fn opens<'a>(flags: &'a [u8; EDGE], links: &'a [u8; CELLS], n: usize, u: usize, j: usize) -> bool
+    requires { ⌜ (n < edge) × (u < edge) × (j ≤ 2 * n) ⌝ }
+    ensures { λ r. ⌜ r ≡ opens (made n (λ a. 0) (summary (now (flags .entry))) (shared (now (flags .entry))) (grid (now (links .entry)))) u j ⌝ }
+{
+    if j == 0 {
+        return !links::one_from(links, n, u, EDGE);
+    }
+    let v = (j + 1) / 2 - 1;
+    if j % 2 == 1 {
+        return possible(links, n, u, v);
+    }
+    if divides(flags[v], links[u * EDGE + v]) {
+        return possible(links, n, u, v);
     }
     false
 }

@@ -10,10 +10,10 @@ ghost use Rattle.model.specs.Shape as M;
 ghost use Rattle.model.specs.Step as S;
 ghost use Rattle.model.specs.Step.{edge, folded-result};
 ghost use Rattle.model.specs.Claim.{op-of};
-ghost use Rattle.shape.specs.Meaning.{meaning, ref, one, trimmed-result, Gives};
-ghost use Rattle.shape.specs.Slots.{load-slot, clear-slot, store-slot, through-slot, places-of, outcome-slot, Yields};
+ghost use Rattle.shape.specs.Meaning.{made, meaning, mask, summary, shared, grid, ref, one, trimmed-result, Gives};
+ghost use Rattle.shape.specs.Slots.{load-slot, clear-slot, store-slot, through-slot, closed, places-of, outcome-slot, Yields};
 
-use super::{Outcome, Place, Shape};
+use super::{CELLS, EDGE, Outcome, Place, Shape};
 use super::clearing;
 use super::clearing::Raw;
 use super::folding;
@@ -113,6 +113,41 @@ fn through(op: u8, x: u8, y: u8, s: Shape, j: usize) -> Raw
     stored(x, y, s, j)
 }
 
+// The variable that is gone through, and the place of its opening.
+fn gone_through(op: u8, x: u8, y: u8) -> u8
+    ensures { λ r. ⌜ r ≡ cond (eqb op 5) y x ⌝ }
+{
+    if op == 5 {
+        return y;
+    }
+    x
+}
+
+fn opening_place(op: u8, j: usize) -> usize
+    ensures { λ r. ⌜ r ≡ cond (eqb op 5) j (cond (eqb op 6) (j / 2) (j / 2 / 2)) ⌝ }
+{
+    if op == 5 {
+        return j;
+    }
+    if op == 6 {
+        return j / 2;
+    }
+    j / 2 / 2
+}
+
+// Whether ops 5 to 7 surely have no result at place j: a look that costs no copy of the shape.
+fn closed<'a>(op: u8, x: u8, y: u8, masks: &'a [u16; EDGE], flags: &'a [u8; EDGE], links: &'a [u8; CELLS], n: usize, j: usize) -> bool
+    requires { ⌜ (x < 16) × (y < 16) × (n < edge) × (4 < op) × (op < 8) × (j < places-of op n) ⌝ }
+    ensures { λ r. ⌜ r ≡ closed op x y (made n (mask (now (masks .entry))) (summary (now (flags .entry))) (shared (now (flags .entry))) (grid (now (links .entry)))) j ⌝ }
+{
+    let v = gone_through(op, x, y);
+    let Place::At(u) = variables::first_with(masks, n, v) else {
+        return true;
+    };
+    let i = opening_place(op, j);
+    !opening::opens(flags, links, n, u, i)
+}
+
 // Null equals null.
 fn same_place(p: Place, q: Place) -> bool
     ensures { λ r. ⌜ r ≡ equal (ref p) (ref q) ⌝ }
@@ -173,7 +208,13 @@ pub fn outcome(op: u8, x: u8, y: u8, s1: usize, s2: usize, s: Shape, j: usize) -
         1 => finished(sole(s), s1),
         2..=3 => finished(sole(assigned(op, x, y, s)), s1),
         4 => finished(sole(variables::fresh(s, x)), s1),
-        5..=7 => finished(through(op, x, y, s, j), s1),
+        5..=7 => {
+            let n = s.n;
+            if closed(op, x, y, &s.masks, &s.flags, &s.links, n, j) {
+                return Outcome { given: false, successor: 0, shape: s };
+            }
+            finished(through(op, x, y, s, j), s1)
+        }
         8..=9 => {
             if decided(op, x, y, s) {
                 return finished(sole(s), s1);

@@ -13,7 +13,7 @@ use super::bits;
 use super::links;
 
 // The first of n masks that has x.
-fn first_with(masks: &[u16; EDGE], n: usize, x: u8) -> Place
+pub fn first_with(masks: &[u16; EDGE], n: usize, x: u8) -> Place
     requires { ⌜ (x < 16) × (n ≤ edge) ⌝ }
     ensures { λ r. ⌜ ref r ≡ first n (λ a. bit x (mask (now (masks .entry)) a)) ⌝ }
 {
