@@ -56,7 +56,7 @@ module _ (C : Claim) where
     -- the outcome at place j, with nothing lost before it
     module _ (j : ℕ) (r : Outcome) (y : Yields (slot j) r) (before : lost C (each j slot) ≡ null) where
       pub not-given : r .given ≡ false → lost C (each (j + 1) slot) ≡ null
-      not-given q = each-more C slot j before (ap (lost C) (sym (y .is) ∙ ap (λ b. given b _) q) ∙ lost-none C)
+      not-given q = each-more C slot j before (ap (lost C) (sym (y .is) ∙ ap (λ b. given b (r .successor, trimmed (meaning (r .shape)))) q) ∙ lost-none C)
 
       module _ (q : r .given ≡ true) where
         -- a listed shape at the successor covers the outcome
