@@ -1,6 +1,6 @@
 // The answer bytes: what holds at each point of an accepted claim.
 ghost use mathlib.Core.Path.{_≡_};
-ghost use mathlib.Core.Bool.{not};
+ghost use mathlib.Core.Bool.{cond, not, _||_};
 ghost use mathlib.Core.List.{_++_};
 ghost use Prim.Native.Nat.{_%_, _<_, _≤_};
 ghost use lib.Dec.{eqb};
@@ -54,16 +54,25 @@ fn passes(s: Shape, test: Test) -> bool
     }
 }
 
+// Shape i passes the test, if it is listed at p.
+fn passes_at(file: &[u8], starts: &[usize; 513], m: usize, i: usize, p: usize, test: Test) -> bool
+    requires { ⌜ Laid (now file) (now starts) m × (i < m) × Known test ⌝ }
+    ensures { λ r. ⌜ r ≡ (not (eqb (claim (now (file .entry)) .point i) p) || test-of test (claim (now (file .entry)) .shape i)) ⌝ }
+{
+    if point(file, starts, m, i) == p {
+        return passes(shape_of(file, starts, m, i), test);
+    }
+    true
+}
+
 // Every shape listed at p passes the test.
 fn all_listed(file: &[u8], starts: &[usize; 513], m: usize, p: usize, test: Test) -> bool
     requires { ⌜ Laid (now file) (now starts) m × Known test ⌝ }
     ensures { λ r. ⌜ r ≡ all-listed (claim (now (file .entry))) p (test-of test) ⌝ }
 {
     for i in 0..m {
-        if point(file, starts, m, i) == p {
-            if !passes(shape_of(file, starts, m, i), test) {
-                return false;
-            }
+        if !passes_at(file, starts, m, i, p, test) {
+            return false;
         }
     }
     true
@@ -114,16 +123,21 @@ pub fn fill(file: &[u8], starts: &[usize; 513], m: usize, n: usize, answer: &mut
     }
 }
 
+// 1 for a byte with the low part 2, else 0.
+fn open_at(byte: u8) -> usize
+    ensures { λ r. ⌜ (r ≡ cond (eqb (byte % 4) 2) 1 0) × (r ≤ 1) ⌝ }
+{
+    if byte % 4 == 2 { 1 } else { 0 }
+}
+
 // How many of the first n bytes have the low part 2.
 pub fn open_points(answer: &[u8], n: usize) -> usize
     requires { ⌜ n ≤ length (now answer) ⌝ }
     ensures { λ r. ⌜ r ≡ count n (λ p. eqb (getD (now (answer .entry)) p 0 % 4) 2) ⌝ }
 {
-    let mut open = 0;
+    let mut total = 0;
     for p in 0..n {
-        if answer[p] % 4 == 2 {
-            open += 1;
-        }
+        total += open_at(answer[p]);
     }
-    open
+    total
 }
