@@ -1,4 +1,11 @@
+-- The answer byte of a point.
+use Prim.Native.Nat.{ℕ, _+_, _-_, _≤_, _<_}
+use mathlib.Core.Bool.{Bool, true, false, not, cond}
+use mathlib.Core.Path.{_≡_, refl, sym, ap, ap₂, subst, _∙_}
+use native.Mathlib.Omega.{arith}
 use borrow.Author.Needs.{needs}
+use borrow.Author.Tests.{eq-eqb, ne-eqb, not-true, not-false}
+use Rattle.model.specs.Verdict.{answer-byte}
 use Rattle.checker.proofs.answers.byte.Statement.{statement}
 use Rattle.checker.proofs.answers.byte.Tie as tie
 use Rattle.checker.proofs.answers.byte.Reads as reads
@@ -7,33 +14,33 @@ use Rattle.checker.proofs.answers.all_listed.Reads as all-listed-reads
 use Rattle.checker.proofs.answers.low_part.Reads as low-part-reads
 use Rattle.checker.proofs.records.lists_some.Reads as lists-some-reads
 
--- src/answers.rt:106:9
 lists-some-requires : tie.Need-lists-some-requires
 lists-some-requires c κs = search needs
 
--- src/answers.rt:107:9
 returns : tie.Need-returns
-returns c = ?
+unfolding answer-byte
+returns c = sym (rw (sym (c .before .lists-some .ensures) ∙ not-true _ (c .if1 .taken)))
 
--- src/answers.rt:109:9
 low-part-requires : tie.Need-low-part-requires
 low-part-requires c κs = search needs
 
--- src/answers.rt:110:8
 all-listed-requires : tie.Need-all-listed-requires
 all-listed-requires c κs = search needs
 
--- src/answers.rt:111:16
 add-result : tie.Need-add-result
 add-result c = search needs
 
--- src/answers.rt:111:9
 returns-2 : tie.Need-returns-2
-returns-2 c = ?
+unfolding answer-byte
+returns-2 c =
+    sym
+    (rw (sym (c .before .before .before .before .lists-some .ensures) ∙ not-false _ (c .before .before .before .if1 .left), sym (c .before .all-listed .ensures) ∙ c .if2 .taken, ← (c .before .before .low-part .ensures .0)))
 
--- src/answers.rt:102:1
 returns-3 : tie.Need-returns-3
-returns-3 c = ?
+unfolding answer-byte
+returns-3 c =
+    sym
+    (rw (sym (c .before .before .before .before .lists-some .ensures) ∙ not-false _ (c .before .before .before .if1 .left), sym (c .before .all-listed .ensures) ∙ c .if2 .left, ← (c .before .before .low-part .ensures .0)) (omega arith))
 
 pub byte-spec : {M : Type 1} → statement M
 byte-spec =

@@ -1,3 +1,15 @@
+-- The answer bytes, one after the other. The invariant: those of the points passed, and the rest as it was.
+use Prim.Native.Nat.{ℕ, _+_, _-_, _≤_, _<_}
+use mathlib.Core.Bool.{Bool, true, false, not, cond}
+use mathlib.Core.Path.{_≡_, refl, sym, ap, ap₂, subst, _∙_}
+use native.Mathlib.Omega.{arith}
+use borrow.Author.Needs.{needs}
+use borrow.Author.Tests.{eq-eqb, ne-eqb, not-true, not-false}
+use mathlib.Core.List.{_++_}
+use lib.ListN.{length, drop}
+use Rattle.model.specs.Claim.{claim}
+use Rattle.model.specs.Verdict.{answer-byte, table}
+use Rattle.model.proofs.Tables.{table-none, table-store}
 use Rattle.checker.proofs.answers.fill.Statement.{statement}
 use Rattle.checker.proofs.answers.fill.Tie as tie
 use Rattle.checker.proofs.answers.fill.Reads as reads
@@ -5,42 +17,43 @@ use Rattle.checker.proofs.answers.fill.Lts as lts
 use Rattle.checker.proofs.answers.byte.Reads as byte-reads
 
 abbrev Inv-loop : tie.InvT-loop
-Inv-loop file starts m n answer₀ p₀ answer p = ?
+Inv-loop file starts m n answer₀ p₀ answer p =
+    (p ≤ n) × (length answer ≡ length answer₀) × (answer ≡ table (answer-byte (claim file)) p ++ drop p answer₀)
 
 abbrev μ-loop : tie.MeasureT-loop
-μ-loop file starts m n answer₀ p₀ answer p = ?
+μ-loop file starts m n answer₀ p₀ answer p = n - p
 
--- src/answers.rt:121:5
 loop-holds : tie.Need-loop-holds Inv-loop μ-loop
-loop-holds c = ?
+loop-holds c = (search needs, search needs, table-none _ _)
 
--- src/answers.rt:122:21
 byte-requires : tie.Need-byte-requires Inv-loop μ-loop
-byte-requires c κs = ?
+byte-requires c κs = (c .before .before .before .before .pre .0, rw (← (c .before .before .before .before .pre .1)) (c .loop-test .taken))
 
--- src/answers.rt:122:9
 slice-write-answer : tie.Need-slice-write-answer Inv-loop μ-loop
-slice-write-answer c = ?
+slice-write-answer c = search needs
 
--- src/answers.rt:121:9
 add-p : tie.Need-add-p Inv-loop μ-loop
-add-p c = ?
+add-p c = search needs
 
--- src/answers.rt:121:5
 loop-less : tie.Need-loop-less Inv-loop μ-loop
-loop-less c = ?
+loop-less c = search needs
 
--- src/answers.rt:121:5
 loop-again : tie.Need-loop-again Inv-loop μ-loop
-loop-again c = ?
+loop-again c =
+    let w = c .before .before .loop in
+    let s = c .before .before .before .before .before in
+    let h = c .before .loop-test .taken in
+    (search needs, search needs,
+    rw (c .byte .ensures, w .inv .2) (table-store (answer-byte (claim (s .args .file .now))) (s .args .answer .now) (w .p) (omega arith)))
 
--- src/answers.rt:117:1
 same-length : tie.Need-same-length Inv-loop μ-loop
-same-length c = ?
+same-length c = search needs
 
--- src/answers.rt:117:1
 returns : tie.Need-returns Inv-loop μ-loop
-returns c = ?
+returns c =
+    let w = c .before .loop in
+    let e : w .p ≡ c .before .before .before .before .args .n = (let x = w .inv .0 in let y = c .loop-test .left in omega arith) in
+    rw e at (w .inv .2)
 
 pub fill-spec : {M : Type 1} → statement M
 fill-spec =
