@@ -14,9 +14,13 @@ ghost use Rattle.model.specs.Verdict.{all-listed, low-part, answer-byte, table}
 ghost use Rattle.shape.specs.Meaning.{meaning, shared};
 ghost use Rattle.checker.specs.Laid.{Laid};
 ghost use Rattle.checker.specs.Meaning.{test-of, Known};
-
-use shape::{EDGE, Place, Shape};
-use crate::records::{lists_some, point, shape_of, statement_at};
+use crate::records::lists_some;
+use crate::records::point;
+use crate::records::shape_of;
+use crate::records::statement_at;
+use shape::EDGE;
+use shape::Place;
+use shape::Shape;
 
 // What is asked of every shape listed at a point: that it has a variable set, or that none of its individuals is shared.
 pub enum Test {
@@ -83,7 +87,11 @@ fn set_or_open(file: &[u8], starts: &[usize; 513], m: usize, p: usize, x: u8) ->
     requires { ⌜ Laid (now file) (now starts) m × (x < 16) ⌝ }
     ensures { λ r. ⌜ r ≡ low-part (claim (now (file .entry))) p (at x) ⌝ }
 {
-    if all_listed(file, starts, m, p, Test::Sets(x)) { 1 } else { 2 }
+    if all_listed(file, starts, m, p, Test::Sets(x)) {
+        1
+    } else {
+        2
+    }
 }
 
 fn low_part(file: &[u8], starts: &[usize; 513], m: usize, p: usize) -> u8

@@ -5,15 +5,17 @@ ghost use lib.ListN.{length};
 ghost use Rattle.model.specs.File.{handed-back};
 ghost use Rattle.model.specs.Verdict.{verdict, buffer-after};
 ghost use Rattle.checker.specs.Meaning.{verdict-of, Safe-if-accepted};
-
-use claim::fields::{Fault, Reading};
-use crate::answers::{fill, open_points};
+use crate::answers::fill;
+use crate::answers::open_points;
 use crate::records::lists_some;
-use crate::search::{Lost, first_lost};
+use crate::search::Lost;
+use crate::search::first_lost;
+use claim::fields::Fault;
+use claim::fields::Reading;
 
+mod answers;
 mod records;
 mod search;
-mod answers;
 
 // The rows of document 01's table: 0 with M and the open points, 1 to 6 with the place, 7, 9 with N, 8 with the shape's
 // number and the successor.

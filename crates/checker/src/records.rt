@@ -10,7 +10,6 @@ ghost use Rattle.model.specs.Shape.{covered};
 ghost use Rattle.model.specs.Step.{edge};
 ghost use Rattle.shape.specs.Meaning.{meaning};
 ghost use Rattle.checker.specs.Laid.{Laid, Holds, Stated};
-
 use shape::Shape;
 
 pub fn wide(b: u8) -> usize

@@ -2,8 +2,10 @@
 ghost use Rattle.model.specs.Claim.{claim};
 ghost use Rattle.checker.specs.Laid.{Laid};
 ghost use Rattle.checker.specs.Meaning.{Says};
-
-use crate::records::{covers, point, shape_of, statement_at};
+use crate::records::covers;
+use crate::records::point;
+use crate::records::shape_of;
+use crate::records::statement_at;
 
 // The lowest shape number with an uncovered outcome, and where its first one leads.
 pub enum Lost {
@@ -21,7 +23,15 @@ pub fn first_lost(file: &[u8], starts: &[usize; 513], m: usize) -> Lost
         let here = statement_at(file, starts, m, point(file, starts, m, i));
         let count = shape::stepping::places(here.op, shape.n);
         'result: for j in 0..count {
-            let outcome = shape::stepping::outcome(here.op, here.x, here.y, here.s1, here.s2, shape, j);
+            let outcome = shape::stepping::outcome(
+                here.op,
+                here.x,
+                here.y,
+                here.s1,
+                here.s2,
+                shape,
+                j,
+            );
             if !outcome.given {
                 continue 'result;
             }

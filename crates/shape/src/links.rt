@@ -8,8 +8,8 @@ ghost use Rattle.model.specs.Truth.{truth, 𝟘, may, must, sure};
 ghost use Rattle.model.specs.Finite.{any, count};
 ghost use Rattle.model.specs.Step.{edge, copy, sure-but, all-zero};
 ghost use Rattle.shape.specs.Meaning.{cells, grid, row, column, summary, Matrix};
-
-use super::{CELLS, EDGE};
+use super::CELLS;
+use super::EDGE;
 use super::truth::Truth;
 
 // ---- changes

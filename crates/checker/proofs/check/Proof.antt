@@ -1,3 +1,8 @@
+-- The decision: each way out is one case of the verdict, with both promises (Deciding).
+use mathlib.Core.Path.{_≡_, refl, sym, ap, _∙_}
+use borrow.Author.Tests.{not-true, not-false}
+use Rattle.claim.proofs.Handed.{is-fine, points-is, shapes-is}
+use Rattle.checker.proofs.Deciding.{laid, unread, unentered, short, lost, accepts}
 use borrow.Author.Needs.{needs}
 use Rattle.checker.proofs.check.Statement.{statement}
 use Rattle.checker.proofs.check.Tie as tie
@@ -9,65 +14,50 @@ use Rattle.checker.proofs.records.lists_some.Reads as lists-some-reads
 use Rattle.checker.proofs.search.first_lost.Reads as first-lost-reads
 use Rattle.claim.proofs.scan.Reads as scan-reads
 
--- src/lib.rt:33:9
 scan-requires : tie.Need-scan-requires
 scan-requires c κs = search needs
 
--- src/lib.rt:39:26
 enum-known-reading : tie.Need-enum-known-reading
 enum-known-reading c = search needs
 
--- src/lib.rt:41:34
 enum-told : tie.Need-enum-told
 enum-told c = search needs
 
--- src/lib.rt:41:17
 lists-some-requires : tie.Need-lists-some-requires
-lists-some-requires c κs = ?
+lists-some-requires c κs = laid _ _ (c .before .enum-told .given .1) (c .before .before .before .before .scan .ensures)
 
--- src/lib.rt:42:17
 returns : tie.Need-returns
-returns c = ?
+returns c = unentered _ _ (is-fine _ _ (c .before .before .before .enum-told .given .1) (c .before .before .before .before .before .before .scan .ensures)) (sym (c .before .lists-some .ensures) ∙ not-true _ (c .if1 .taken))
 
--- src/lib.rt:45:17
 returns-2 : tie.Need-returns-2
-returns-2 c = ?
+returns-2 c = short _ _ (is-fine _ _ (c .before .before .before .before .enum-told .given .1) (c .before .before .before .before .before .before .before .scan .ensures)) (sym (c .before .before .lists-some .ensures) ∙ not-false _ (c .before .if1 .left)) _ (points-is _ _ (c .before .before .before .before .enum-told .given .1) (c .before .before .before .before .before .before .before .scan .ensures)) (c .if2 .taken)
 
--- src/lib.rt:47:19
 first-lost-requires : tie.Need-first-lost-requires
-first-lost-requires c κs = ?
+first-lost-requires c κs = laid _ _ (c .before .before .before .before .before .enum-told .given .1) (c .before .before .before .before .before .before .before .before .scan .ensures)
 
--- src/lib.rt:48:26
 enum-known-shape : tie.Need-enum-known-shape
 enum-known-shape c = search needs
 
--- src/lib.rt:50:32
 enum-told-2 : tie.Need-enum-told-2
 enum-told-2 c = search needs
 
--- src/lib.rt:50:21
 fill-requires : tie.Need-fill-requires
-fill-requires c κs = ?
+fill-requires c κs = (laid _ _ (c .before .before .before .before .before .before .before .before .before .before .enum-told .given .1) (c .before .before .before .before .before .before .before .before .before .before .before .before .before .scan .ensures), points-is _ _ (c .before .before .before .before .before .before .before .before .before .before .enum-told .given .1) (c .before .before .before .before .before .before .before .before .before .before .before .before .before .scan .ensures), c .before .before .before .before .before .before .if2 .left)
 
--- src/lib.rt:51:47
 open-points-requires : tie.Need-open-points-requires
 open-points-requires c κs = search needs
 
--- src/lib.rt:29:1
 returns-3 : tie.Need-returns-3
-returns-3 c = ?
+returns-3 c = unread _ _ _ _ _ (c .before .reading .given .1) (c .before .before .before .before .scan .ensures .reading)
 
--- src/lib.rt:29:1
 returns-4 : tie.Need-returns-4
-returns-4 c = ?
+returns-4 c = lost _ _ (is-fine _ _ (c .before .before .before .before .before .before .before .before .before .enum-told .given .1) (c .before .before .before .before .before .before .before .before .before .before .before .before .scan .ensures)) (sym (c .before .before .before .before .before .before .before .lists-some .ensures) ∙ not-false _ (c .before .before .before .before .before .before .if1 .left)) _ (points-is _ _ (c .before .before .before .before .before .before .before .before .before .enum-told .given .1) (c .before .before .before .before .before .before .before .before .before .before .before .before .scan .ensures)) (c .before .before .before .before .before .if2 .left) _ _ _ (c .before .shape .given .1) (c .before .before .before .first-lost .ensures)
 
--- src/lib.rt:29:1
 same-length : tie.Need-same-length
 same-length c = search needs
 
--- src/lib.rt:29:1
 returns-5 : tie.Need-returns-5
-returns-5 c = ?
+returns-5 c = accepts _ _ (is-fine _ _ (c .before .before .before .before .before .before .before .before .before .before .before .before .before .before .before .enum-told .given .1) (c .before .before .before .before .before .before .before .before .before .before .before .before .before .before .before .before .before .before .scan .ensures)) (sym (c .before .before .before .before .before .before .before .before .before .before .before .before .before .lists-some .ensures) ∙ not-false _ (c .before .before .before .before .before .before .before .before .before .before .before .before .if1 .left)) _ (points-is _ _ (c .before .before .before .before .before .before .before .before .before .before .before .before .before .before .before .enum-told .given .1) (c .before .before .before .before .before .before .before .before .before .before .before .before .before .before .before .before .before .before .scan .ensures)) (c .before .before .before .before .before .before .before .before .before .before .before .if2 .left) _ (c .before .before .before .before .before .before .before .enum-told2 .given .1) (c .before .before .before .before .before .before .before .before .before .first-lost .ensures) _ _ _ (shapes-is _ _ (c .before .before .before .before .before .before .before .before .before .before .before .before .before .before .before .enum-told .given .1) (c .before .before .before .before .before .before .before .before .before .before .before .before .before .before .before .before .before .before .scan .ensures)) (c .before .before .before .before .fill .ensures) (c .open-points .ensures)
 
 pub check-spec : {M : Type 1} → statement M
 check-spec =

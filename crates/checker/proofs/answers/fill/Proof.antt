@@ -42,9 +42,11 @@ loop-again : tie.Need-loop-again Inv-loop μ-loop
 loop-again c =
     let w = c .before .before .loop in
     let s = c .before .before .before .before .before in
-    let h = c .before .loop-test .taken in
-    (search needs, search needs,
-    rw (c .byte .ensures, w .inv .2) (table-store (answer-byte (claim (s .args .file .now))) (s .args .answer .now) (w .p) (omega arith)))
+    let h = c .before .loop-test .taken in (
+      search needs,
+      search needs,
+      rw (c .byte .ensures, w .inv .2) (table-store (answer-byte (claim (s .args .file .now))) (s .args .answer .now) (w .p) (omega arith)),
+    )
 
 same-length : tie.Need-same-length Inv-loop μ-loop
 same-length c = search needs

@@ -115,12 +115,14 @@ result-again-2 c =
     let w = c .before .before .before .before .before .before .before .before .before .result in
     let v = c .before .before .before .listed in
     let h = c .before .before .before .before .before .before .before .before .result-test .taken in
-    let e = v .inv .1 in
-    (omega arith, w .inv .1,
-    rw e
-    (is-covered (claim f) o W (w .j) (c .before .before .before .before .before .before .before .outcome .result) (c .before .before .before .before .before .before .before .outcome .ensures) (w .inv .2) (not-false _ (c .before .before .before .before .before .if1 .left)) (v .t)
-    (rw (← (c .before .before .before .before .before .before .before .before .before .before .before .before .before .before .before .before .before .pre .shapes)) (c .before .before .listed-test .taken))
-    (sym (c .before .covers .ensures) ∙ c .if2 .taken)))
+    let e = v .inv .1 in (
+      omega arith,
+      w .inv .1,
+      rw e
+          (is-covered (claim f) o W (w .j) (c .before .before .before .before .before .before .before .outcome .result) (c .before .before .before .before .before .before .before .outcome .ensures) (w .inv .2) (not-false _ (c .before .before .before .before .before .if1 .left)) (v .t)
+          (rw (← (c .before .before .before .before .before .before .before .before .before .before .before .before .before .before .before .before .before .pre .shapes)) (c .before .before .listed-test .taken))
+          (sym (c .before .covers .ensures) ∙ c .if2 .taken)),
+    )
 
 add-t : tie.Need-add-t Inv-listed μ-listed Inv-result μ-result Inv-claim μ-claim
 add-t c = let h = c .before .before .listed-test .taken in let z = few _ _ _ (c .before .before .before .before .before .before .before .before .before .before .before .before .before .before .before .before .before .pre) in omega arith
@@ -179,9 +181,9 @@ returns-2 c =
     let j-low : w .j < places o (W .size) = rw (n, ← (c .before .before .before .before .before .before .before .before .places .ensures)) (c .before .before .before .before .before .before .result-test .taken) in
     let t-all : u .t ≡ file.shapes f = rw (← (l .shapes)) (let x = u .inv .0 in let y = c .listed-test .left in omega arith) in
     let out : lost-from (claim f) (v .i) ≡ at (c .before .before .before .before .before .outcome .result .successor) =
-      sym (lost-all (claim f) o W (v .i) p q)
-      ∙ is-lost (claim f) o W (w .j) (c .before .before .before .before .before .outcome .result) (c .before .before .before .before .before .outcome .ensures) (w .inv .2) (not-false _ (c .before .before .before .if1 .left))
-        (rw t-all at (u .inv .2)) (places o (W .size)) j-low
+    sym (lost-all (claim f) o W (v .i) p q)
+    ∙ is-lost (claim f) o W (w .j) (c .before .before .before .before .before .outcome .result) (c .before .before .before .before .before .outcome .ensures) (w .inv .2) (not-false _ (c .before .before .before .if1 .left))
+    (rw t-all at (u .inv .2)) (places o (W .size)) j-low
     in
     (lowest-at (claim f) (v .i) _ (rw (← (l .shapes)) (c .before .before .before .before .before .before .before .before .before .before .before .before .claim-test .taken)) (v .inv .2) out, out)
 

@@ -49,13 +49,14 @@ loop-less : tie.Need-loop-less Inv-loop μ-loop Inv-loop2 μ-loop2
 loop-less c = search needs
 
 loop-again : tie.Need-loop-again Inv-loop μ-loop Inv-loop2 μ-loop2
-loop-again c = 
+loop-again c =
     let g = c .before .before .before .args in
     let s = c .before .before .loop in
-    let o = grid (g .links .now) in
-    (omega arith,
-     along-next (g .n) (row (g .n) (o (g .v)) o) o (s .links) (s .b) _ (omega arith) (omega arith) (row-else (g .n) (o (g .v)) o)
-     (along-read (g .n) (row (g .n) (o (g .v)) o) o (s .links) (g .v) (s .b) (omega arith) (omega arith) (s .inv .1) ∙ sym (row-here (g .n) (o (g .v)) o (s .b))) (s .inv .1))
+    let o = grid (g .links .now) in (
+      omega arith,
+      along-next (g .n) (row (g .n) (o (g .v)) o) o (s .links) (s .b) _ (omega arith) (omega arith) (row-else (g .n) (o (g .v)) o)
+          (along-read (g .n) (row (g .n) (o (g .v)) o) o (s .links) (g .v) (s .b) (omega arith) (omega arith) (s .inv .1) ∙ sym (row-here (g .n) (o (g .v)) o (s .b))) (s .inv .1),
+    )
 
 loop2-holds : tie.Need-loop2-holds Inv-loop μ-loop Inv-loop2 μ-loop2
 loop2-holds c = (omega arith, down-none (c .before .before .args .n) _ _ (c .before .loop .links) (c .before .loop .inv .1 .0) refl)
@@ -85,17 +86,18 @@ loop2-less : tie.Need-loop2-less Inv-loop μ-loop Inv-loop2 μ-loop2
 loop2-less c = search needs
 
 loop2-again : tie.Need-loop2-again Inv-loop μ-loop Inv-loop2 μ-loop2
-loop2-again c = 
+loop2-again c =
     let g = c .before .before .before .before .before .args in
     let s = c .before .before .loop2 in
     let o = grid (c .before .before .before .before .loop .links) in
-    let f : ℕ → Truth → Truth = λ a w. o a (g .v) in
-    (omega arith,
-     down-next (g .n) (column (g .n) f o) o (s .links) (s .a) _ (omega arith) (omega arith) (column-else (g .n) f o)
-     (down-read (g .n) (column (g .n) f o) o (s .links) (s .a) (g .v) (omega arith) (omega arith) (s .inv .1) ∙ sym (column-here (g .n) f o (s .a))) (s .inv .1))
+    let f : ℕ → Truth → Truth = λ a w. o a (g .v) in (
+      omega arith,
+      down-next (g .n) (column (g .n) f o) o (s .links) (s .a) _ (omega arith) (omega arith) (column-else (g .n) f o)
+          (down-read (g .n) (column (g .n) f o) o (s .links) (s .a) (g .v) (omega arith) (omega arith) (s .inv .1) ∙ sym (column-here (g .n) f o (s .a))) (s .inv .1),
+    )
 
 returns : tie.Need-returns Inv-loop μ-loop Inv-loop2 μ-loop2
-returns c = 
+returns c =
     let g = c .before .before .before .before .args in
     let s = c .before .loop2 in
     let m = c .before .before .before .loop in
@@ -105,12 +107,12 @@ returns c =
     record {
       whole = s .inv .1 .0;
       says =
-        down-done (g .n) (column (g .n) f o) o (s .links) (s .a) (omega arith) (omega arith)
-        (λ x b h. column-beyond (g .n) f (m .links) x b (sym (grid-low (m .links) x (g .v) h)) h) (s .inv .1)
-        ∙ ap (λ (h : ℕ → ℕ → Truth). column (g .n) (λ a w. h a (g .v)) h)
-        (along-done (g .n) (row (g .n) (grid l (g .v)) (grid l)) (grid l) (m .links) (m .b) (omega arith) (omega arith)
-        (λ x b h. row-beyond (g .n) (grid l (g .v)) l x b (λ k. sym (grid-right l (g .v) b k)) h) (m .inv .1))
-        ∙ copied-both (g .n) (g .v) (grid l);
+          down-done (g .n) (column (g .n) f o) o (s .links) (s .a) (omega arith) (omega arith)
+          (λ x b h. column-beyond (g .n) f (m .links) x b (sym (grid-low (m .links) x (g .v) h)) h) (s .inv .1)
+          ∙ ap (λ (h : ℕ → ℕ → Truth). column (g .n) (λ a w. h a (g .v)) h)
+          (along-done (g .n) (row (g .n) (grid l (g .v)) (grid l)) (grid l) (m .links) (m .b) (omega arith) (omega arith)
+          (λ x b h. row-beyond (g .n) (grid l (g .v)) l x b (λ k. sym (grid-right l (g .v) b k)) h) (m .inv .1))
+          ∙ copied-both (g .n) (g .v) (grid l);
     }
 
 pub copy-links-spec : {M : Type 1} → statement M
