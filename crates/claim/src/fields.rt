@@ -28,12 +28,36 @@ impl Fault {
         ensures { λ r. ⌜ answer (r .number) (r .a) (r .b) ≡ answer-of (unreadable (fault-of self) place) ⌝ }
     {
         match self {
-            Fault::CutShort => Row { number: 1, a: place, b: 0 },
-            Fault::WrongMark => Row { number: 2, a: 0, b: 0 },
-            Fault::WrongVersion => Row { number: 3, a: 3, b: 0 },
-            Fault::BeyondLimit => Row { number: 4, a: place, b: 0 },
-            Fault::WrongPoint => Row { number: 5, a: place, b: 0 },
-            Fault::WrongShape => Row { number: 6, a: place, b: 0 },
+            Fault::CutShort => Row {
+                number: 1,
+                a: place,
+                b: 0,
+            },
+            Fault::WrongMark => Row {
+                number: 2,
+                a: 0,
+                b: 0,
+            },
+            Fault::WrongVersion => Row {
+                number: 3,
+                a: 3,
+                b: 0,
+            },
+            Fault::BeyondLimit => Row {
+                number: 4,
+                a: place,
+                b: 0,
+            },
+            Fault::WrongPoint => Row {
+                number: 5,
+                a: place,
+                b: 0,
+            },
+            Fault::WrongShape => Row {
+                number: 6,
+                a: place,
+                b: 0,
+            },
         }
     }
 }

@@ -1,13 +1,42 @@
 // Runs the reader on file F of document 01, on each of its prefixes, on F with one byte changed, and on the files that the
 // arguments name. Prints for each the number, a and b of refusals 1 to 6, or `read`.
-use claim::fields::{Fault, Reading};
+ghost use lib.ListN.{length};
+ghost use mathlib.Core.Path.{_≡_};
+use claim::fields::Fault;
+use claim::fields::Reading;
 use libc::STDOUT_FILENO;
 
 // "File F, hexadecimal"
-fn file_f() -> [u8; 26] {
+fn file_f() -> [u8; 26]
+    ensures { λ r. ⌜ 26 ≡ length r ⌝ }
+{
     [
-        0x53, 0x48, 0x43, 0x01, 0x00, 0x01, 0x02, 0x04, 0x00, 0x00, 0x01, 0x00, 0x00, 0x00, 0x00, 0x00, 0x00, 0x02,
-        0x00, 0x00, 0x00, 0x01, 0x01, 0x01, 0x00, 0x00,
+        0x53,
+        0x48,
+        0x43,
+        0x01,
+        0x00,
+        0x01,
+        0x02,
+        0x04,
+        0x00,
+        0x00,
+        0x01,
+        0x00,
+        0x00,
+        0x00,
+        0x00,
+        0x00,
+        0x00,
+        0x02,
+        0x00,
+        0x00,
+        0x00,
+        0x01,
+        0x01,
+        0x01,
+        0x00,
+        0x00,
     ]
 }
 
@@ -44,12 +73,18 @@ fn line(file: &[u8]) {
     say(b"\n");
 }
 
-fn prefixes() {
+fn prefix(n: usize) {
     let f = file_f();
-    for n in 0..27 {
+    if n <= 26 {
         say(b"the first ");
         number(n);
         line(&f[..n]);
+    }
+}
+
+fn prefixes() {
+    for n in 0..27 {
+        prefix(n);
     }
 }
 
