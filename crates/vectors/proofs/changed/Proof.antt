@@ -2,13 +2,6 @@ use Prim.Native.Nat.{_≤_, _-_}
 use borrow.Author.Needs.{needs}
 use Rattle.vectors.proofs.changed.Statement.{statement}
 use Rattle.vectors.proofs.changed.Tie as tie
-use Rattle.vectors.proofs.changed.Reads as reads
-use Rattle.vectors.proofs.changed.Lts as lts
-use Rattle.vectors.proofs.changed_to.Reads as changed-to-reads
-use Rattle.vectors.proofs.file_f.Reads as file-f-reads
-use Rattle.vectors.proofs.line.Reads as line-reads
-use Rattle.vectors.proofs.number.Reads as number-reads
-use Rattle.vectors.proofs.say.Reads as say-reads
 
 abbrev Inv-loop : tie.InvT-loop
 Inv-loop place v₀ t5 t6 v = v ≤ 8
@@ -16,83 +9,63 @@ Inv-loop place v₀ t5 t6 v = v ≤ 8
 abbrev μ-loop : tie.MeasureT-loop
 μ-loop place v₀ t5 t6 v = 8 - v
 
--- src/main.rt:58:9
 loop-holds : tie.Need-loop-holds Inv-loop μ-loop
 loop-holds c = search needs
 
--- src/main.rt:59:22
 changed-to-requires : tie.Need-changed-to-requires Inv-loop μ-loop
 changed-to-requires c κs = search needs
 
--- src/main.rt:60:25
 file-f-requires : tie.Need-file-f-requires Inv-loop μ-loop
 file-f-requires c κs = search needs
 
--- src/main.rt:61:24
 array-read-f : tie.Need-array-read-f Inv-loop μ-loop
 array-read-f c = search needs
 
--- src/main.rt:61:13
 array-write-f : tie.Need-array-write-f Inv-loop μ-loop
 array-write-f c = search needs
 
--- src/main.rt:62:17
 slice-aggregate-say : tie.Need-slice-aggregate-say Inv-loop μ-loop
 slice-aggregate-say c = search needs
 
--- src/main.rt:62:13
 say-requires : tie.Need-say-requires Inv-loop μ-loop
 say-requires c κs = search needs
 
--- src/main.rt:63:13
 number-requires : tie.Need-number-requires Inv-loop μ-loop
 number-requires c κs = search needs
 
--- src/main.rt:64:17
 slice-aggregate-say-2 : tie.Need-slice-aggregate-say-2 Inv-loop μ-loop
 slice-aggregate-say-2 c = search needs
 
--- src/main.rt:64:13
 say-requires-2 : tie.Need-say-requires-2 Inv-loop μ-loop
 say-requires-2 c κs = search needs
 
--- src/main.rt:65:20
 array-read-number : tie.Need-array-read-number Inv-loop μ-loop
 array-read-number c = search needs
 
--- src/main.rt:65:20
 cast-number : tie.Need-cast-number Inv-loop μ-loop
 cast-number c = search needs
 
--- src/main.rt:65:13
 number-requires-2 : tie.Need-number-requires-2 Inv-loop μ-loop
 number-requires-2 c κs = search needs
 
--- src/main.rt:66:18
 slice-aggregate-line : tie.Need-slice-aggregate-line Inv-loop μ-loop
 slice-aggregate-line c = search needs
 
--- src/main.rt:66:13
 line-requires : tie.Need-line-requires Inv-loop μ-loop
 line-requires c κs = search needs
 
--- src/main.rt:58:13
 add-v : tie.Need-add-v Inv-loop μ-loop
 add-v c = search needs
 
--- src/main.rt:58:9
 loop-less : tie.Need-loop-less Inv-loop μ-loop
 loop-less c = search needs
 
--- src/main.rt:58:9
 loop-again : tie.Need-loop-again Inv-loop μ-loop
 loop-again c = search needs
 
--- src/main.rt:56:1
 returns : tie.Need-returns Inv-loop μ-loop
 returns c = search needs
 
--- src/main.rt:56:1
 returns-2 : tie.Need-returns-2 Inv-loop μ-loop
 returns-2 c = search needs
 

@@ -2,9 +2,6 @@ use Prim.Native.Nat.{_≤_, _-_}
 use borrow.Author.Needs.{needs}
 use Rattle.vectors.proofs.changes.Statement.{statement}
 use Rattle.vectors.proofs.changes.Tie as tie
-use Rattle.vectors.proofs.changes.Reads as reads
-use Rattle.vectors.proofs.changes.Lts as lts
-use Rattle.vectors.proofs.changed.Reads as changed-reads
 
 abbrev Inv-loop : tie.InvT-loop
 Inv-loop place₀ place = place ≤ 26
@@ -12,27 +9,21 @@ Inv-loop place₀ place = place ≤ 26
 abbrev μ-loop : tie.MeasureT-loop
 μ-loop place₀ place = 26 - place
 
--- src/main.rt:72:5
 loop-holds : tie.Need-loop-holds Inv-loop μ-loop
 loop-holds c = search needs
 
--- src/main.rt:73:9
 changed-requires : tie.Need-changed-requires Inv-loop μ-loop
 changed-requires c κs = search needs
 
--- src/main.rt:72:9
 add-place : tie.Need-add-place Inv-loop μ-loop
 add-place c = search needs
 
--- src/main.rt:72:5
 loop-less : tie.Need-loop-less Inv-loop μ-loop
 loop-less c = search needs
 
--- src/main.rt:72:5
 loop-again : tie.Need-loop-again Inv-loop μ-loop
 loop-again c = search needs
 
--- src/main.rt:71:1
 returns : tie.Need-returns Inv-loop μ-loop
 returns c = search needs
 

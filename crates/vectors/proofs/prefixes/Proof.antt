@@ -2,9 +2,6 @@ use Prim.Native.Nat.{_≤_, _-_}
 use borrow.Author.Needs.{needs}
 use Rattle.vectors.proofs.prefixes.Statement.{statement}
 use Rattle.vectors.proofs.prefixes.Tie as tie
-use Rattle.vectors.proofs.prefixes.Reads as reads
-use Rattle.vectors.proofs.prefixes.Lts as lts
-use Rattle.vectors.proofs.prefix.Reads as prefix-reads
 
 abbrev Inv-loop : tie.InvT-loop
 Inv-loop n₀ n = n ≤ 27
@@ -12,27 +9,21 @@ Inv-loop n₀ n = n ≤ 27
 abbrev μ-loop : tie.MeasureT-loop
 μ-loop n₀ n = 27 - n
 
--- src/main.rt:57:5
 loop-holds : tie.Need-loop-holds Inv-loop μ-loop
 loop-holds c = search needs
 
--- src/main.rt:58:9
 prefix-requires : tie.Need-prefix-requires Inv-loop μ-loop
 prefix-requires c κs = search needs
 
--- src/main.rt:57:9
 add-n : tie.Need-add-n Inv-loop μ-loop
 add-n c = search needs
 
--- src/main.rt:57:5
 loop-less : tie.Need-loop-less Inv-loop μ-loop
 loop-less c = search needs
 
--- src/main.rt:57:5
 loop-again : tie.Need-loop-again Inv-loop μ-loop
 loop-again c = search needs
 
--- src/main.rt:56:1
 returns : tie.Need-returns Inv-loop μ-loop
 returns c = search needs
 
