@@ -4,3 +4,4 @@ pub mod Numbers
 pub mod Operands
 pub mod Individuals
 pub mod Handed
+pub mod Unique

@@ -12,6 +12,7 @@ use Rattle.claim.specs.declared.fields.Reading.the-variants.{Fine, Refus
 use Rattle.claim.specs.declared.Claim.{Claim}
 use Rattle.claim.specs.Answers.{reading-of}
 
+-- an array of places, all 0
 unfoldable pub zeros : List ℕ
 zeros = replicate 513 0
 

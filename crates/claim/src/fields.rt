@@ -2,6 +2,7 @@
 ghost use mathlib.Core.Path.{_≡_};
 ghost use Prim.Native.Nat.{_≤_, _<_};
 ghost use Rattle.model.specs.File.{_then_, byte, number, within, field};
+ghost use Rattle.model.specs.Verdict.{answer, unreadable, answer-of};
 ghost use Rattle.claim.specs.Answers.{fault-of, reading-of};
 
 // What can be wrong with a file: refusals 1 to 6.
@@ -12,6 +13,53 @@ pub enum Fault {
     BeyondLimit,
     WrongPoint,
     WrongShape,
+}
+
+// A row of the table of answers.
+pub struct Row {
+    pub number: usize,
+    pub a: usize,
+    pub b: usize,
+}
+
+impl Fault {
+    // The paper's number, a and b for a fault at a place.
+    pub fn row(self, place: usize) -> Row
+        ensures { λ r. ⌜ answer (r .number) (r .a) (r .b) ≡ answer-of (unreadable (fault-of self) place) ⌝ }
+    {
+        match self {
+            Fault::CutShort => Row {
+                number: 1,
+                a: place,
+                b: 0,
+            },
+            Fault::WrongMark => Row {
+                number: 2,
+                a: 0,
+                b: 0,
+            },
+            Fault::WrongVersion => Row {
+                number: 3,
+                a: 3,
+                b: 0,
+            },
+            Fault::BeyondLimit => Row {
+                number: 4,
+                a: place,
+                b: 0,
+            },
+            Fault::WrongPoint => Row {
+                number: 5,
+                a: place,
+                b: 0,
+            },
+            Fault::WrongShape => Row {
+                number: 6,
+                a: place,
+                b: 0,
+            },
+        }
+    }
 }
 
 // What reading comes to: all is right, or a fault at a place.

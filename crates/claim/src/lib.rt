@@ -21,13 +21,16 @@ pub mod fields;
 mod program;
 mod shapes;
 
+// Room for where each of 512 records starts, and where the last one ends.
+pub const STARTS: usize = 513;
+
 // What reading hands on: V, N and M, and where each record starts; record i ends where i + 1 starts, or would.
 pub struct Claim {
     pub reading: Reading,
     pub vars: usize,
     pub points: usize,
     pub shapes: usize,
-    pub starts: [usize; 513],
+    pub starts: [usize; STARTS],
 }
 
 fn refused(reading: Reading) -> Claim
@@ -38,7 +41,7 @@ fn refused(reading: Reading) -> Claim
         vars: 0,
         points: 0,
         shapes: 0,
-        starts: [0; 513],
+        starts: [0; STARTS],
     }
 }
 
@@ -97,7 +100,7 @@ fn records(
     requires { ⌜ Headed (meaning form) (now file) vars points shapes first ⌝ }
     ensures { λ r. ⌜ Reads (meaning form) (now (file .entry)) (shape-records (meaning form) (now (file .entry)) then ended (meaning form) (now (file .entry))) r ⌝ }
 {
-    let mut starts = [0; 513];
+    let mut starts = [0; STARTS];
     let mut here = first;
     let mut least = 0;
     for i in 0..shapes {

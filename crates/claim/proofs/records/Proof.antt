@@ -1,3 +1,4 @@
+-- The loop: the records below i are right, and starts, here and least are what the definition has for i.
 use Prim.Native.Nat.{ℕ, _+_, _-_, _^_, _≤_, _<_}
 use mathlib.Core.List.{_++_}
 use mathlib.Core.Path.{_≡_, refl}

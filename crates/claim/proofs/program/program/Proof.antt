@@ -1,3 +1,4 @@
+-- The loop: the point records below p are right.
 use Prim.Native.Nat.{_-_, _≤_}
 use mathlib.Core.Path.{_≡_, sym}
 use native.Mathlib.Omega.{arith}

@@ -1,3 +1,4 @@
+-- The loop: the individuals below i are right, and here, held and floor are what the definition has for i.
 use Prim.Native.Nat.{_+_, _-_, _≤_}
 use mathlib.Core.Path.{_≡_, refl, sym, _∙_}
 use native.Mathlib.Omega.{arith}

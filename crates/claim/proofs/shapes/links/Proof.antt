@@ -1,3 +1,4 @@
+-- The loop: the link values below j are right, so the place of the next one is in the file or at its end.
 use Prim.Native.Nat.{_+_, _-_, _≤_}
 use mathlib.Core.Path.{_≡_, sym}
 use native.Mathlib.Omega.{arith}
