@@ -20,7 +20,7 @@ made-eq e f g h k = rw (e, f, g, h, k)
 
 pub at-set : (l : List ℕ) (i v a : ℕ) → i < length l → getD (set l i v) a 0 ≡ cond (eqb a i) v (getD l a 0)
 at-set l i v a h =
-  by (eqb a i)
+    by (eqb a i)
     (λ q. rw (q, eqb-true a i q, getD-set-same l i v 0 h))
     (λ q. rw q (getD-set-other l i a v 0 (eqb-false a i q)))
 
@@ -76,7 +76,7 @@ module _ (f : List ℕ) (t : ℕ) (h : t < length f) where
 
   pub taken-summary : getD f t 0 % 2 ≢ 0 → summary (set f t (getD f t 0 - 1)) ≡ summary f
   taken-summary d =
-    summary-set f t (getD f t 0 - 1) h
+      summary-set f t (getD f t 0 - 1) h
       ∙ same-entry (summary f) t (eqb ((getD f t 0 - 1) / 2 % 2) 1) (ap (λ x. eqb x 1) (let z : (getD f t 0 - 1) / 2 % 2 ≡ getD f t 0 / 2 % 2 = odd-less (getD f t 0) d in z) ∙ sym (summary-at f t))
     where
       odd-less : (x : ℕ) → x % 2 ≢ 0 → (x - 1) / 2 % 2 ≡ x / 2 % 2
@@ -90,12 +90,11 @@ module _ (f : List ℕ) (t : ℕ) (h : t < length f) where
 
   pub given-summary : getD f t 0 % 2 ≢ 1 → summary (set f t (getD f t 0 + 1)) ≡ summary f
   given-summary d =
-    summary-set f t (getD f t 0 + 1) h
+      summary-set f t (getD f t 0 + 1) h
       ∙ same-entry (summary f) t (eqb ((getD f t 0 + 1) / 2 % 2) 1) (ap (λ x. eqb x 1) (even-more (getD f t 0) d) ∙ sym (summary-at f t))
     where
       even-more : (x : ℕ) → x % 2 ≢ 1 → (x + 1) / 2 % 2 ≡ x / 2 % 2
       even-more x d = ap (λ y. y % 2) (let z : (x + 1) / 2 ≡ x / 2 = omega arith in z)
-
 
 -- ---- nothing yet
 

@@ -31,17 +31,18 @@ module _ (new old : ℕ → ℕ) where
   lined-read r a inv = ap (λ (g : ℕ → ℕ). g a) (inv .1) ∙ rw (le-ltb a a (omega arith))
 
   pub lined-next : (r : List ℕ) (a v : ℕ) → a < edge → v ≡ new a → Lined a r → Lined (a + 1) (set r a v)
-  lined-next r a v h w inv =
-    (length-set r a v ∙ inv .0,
-      mask-set r a v (let z = inv .0 in omega arith) ∙ fun-ext (λ x.
+  lined-next r a v h w inv = (
+    length-set r a v ∙ inv .0,
+    mask-set r a v (let z = inv .0 in omega arith) ∙ fun-ext (λ x.
         by (eqb x a)
-          (λ q. let e = eqb-true x a q in rw (q, lt-ltb x (a + 1) (omega arith)) (w ∙ ap new (sym e)))
-          (λ q. rw q (ap (λ (g : ℕ → ℕ). g x) (inv .1) ∙ ap (λ c. cond c (new x) (old x)) (ltb-step x a (eqb-false x a q))))))
+        (λ q. let e = eqb-true x a q in rw (q, lt-ltb x (a + 1) (omega arith)) (w ∙ ap new (sym e)))
+        (λ q. rw q (ap (λ (g : ℕ → ℕ). g x) (inv .1) ∙ ap (λ c. cond c (new x) (old x)) (ltb-step x a (eqb-false x a q))))),
+  )
 
   pub lined-done : (r : List ℕ) (a : ℕ) → edge ≤ a → a ≤ edge → ((x : ℕ) → edge ≤ x → new x ≡ old x) → Lined a r → mask r ≡ new
   lined-done r a h k f inv =
-    let e : a ≡ edge = omega arith in
-    inv .1 ∙ fun-ext (λ x. rw e (by (ltb x edge) (λ q. rw q) (λ q. rw q (sym (f x (ltb-false x edge q))))))
+      let e : a ≡ edge = omega arith in
+      inv .1 ∙ fun-ext (λ x. rw e (by (ltb x edge) (λ q. rw q) (λ q. rw q (sym (f x (ltb-false x edge q))))))
 
 pub is-beyond : (p : Place) (a : ℕ) → index p < edge → edge ≤ a → is (ref p) a ≡ false
 is-beyond (At b) a h k = ne-eqb a b (λ e. omega arith)

@@ -41,9 +41,9 @@ pub put-fits : (k x m : ℕ) → x < k → m < 2 ^ k → put x true m < 2 ^ k
 put-fits zero x m h l = absurd (omega arith)
 put-fits (suc k) zero m h l = let z : 2 ^ suc k ≡ 2 * 2 ^ k = pow-succ' 2 k in omega arith
 put-fits (suc k) (suc x) m h l =
-  let z : 2 ^ suc k ≡ 2 * 2 ^ k = pow-succ' 2 k in
-  let y = put-fits k x (m / 2) (omega arith) (omega arith) in
-  omega arith
+    let z : 2 ^ suc k ≡ 2 * 2 ^ k = pow-succ' 2 k in
+    let y = put-fits k x (m / 2) (omega arith) (omega arith) in
+    omega arith
 
 -- one bit, shifted to its place
 pub one-bit : (x : ℕ) → x < 16 → 1 * 2 ^ x % 65536 ≡ 2 ^ x

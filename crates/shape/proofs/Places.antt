@@ -28,8 +28,8 @@ each-front (suc n) f = ap (λ l. l ++ f (suc n)) (each-front n f) ∙ append-ass
 each-pairs : {A : Type 0} (n : ℕ) (f : ℕ → List A) → each (2 * n) f ≡ each n (λ i. f (2 * i) ++ f (suc (2 * i)))
 each-pairs zero f = refl
 each-pairs (suc n) f =
-  let e : 2 * suc n ≡ suc (suc (2 * n)) = omega arith in
-  rw e (append-assoc (each (2 * n) f) (f (2 * n)) (f (suc (2 * n))) ∙ ap (λ l. l ++ (f (2 * n) ++ f (suc (2 * n)))) (each-pairs n f))
+    let e : 2 * suc n ≡ suc (suc (2 * n)) = omega arith in
+    rw e (append-assoc (each (2 * n) f) (f (2 * n)) (f (suc (2 * n))) ∙ ap (λ l. l ++ (f (2 * n) ++ f (suc (2 * n)))) (each-pairs n f))
 
 in-each-append : {A B : Type 0} (f : A → List B) (l m : List A) → in-each f (l ++ m) ≡ in-each f l ++ in-each f m
 in-each-append f [] m = refl
@@ -77,7 +77,7 @@ both f g h e (a ∷ b ∷ l) p = absurd p
 
 small-settled : (W : Shape) (u t : ℕ) → Small (settled W u t)
 small-settled W u t =
-  small-cond (W .n .shared t) _ _
+    small-cond (W .n .shared t) _ _
     (small-given (any (W .size) (λ a. not (eqb a u) && may (W .n .link a t))) (record { shape = W; target = at t }))
     (small-given (not (any (W .size) (λ a. not (eqb a u) && must (W .n .link a t)))) (record { shape = with-n W (into t (sure-but u) (W .n)); target = at t }))
 
@@ -97,22 +97,22 @@ both-targets W u v = go (possible W u v) (settled (whole W u v) u v) (cond (divi
 
 slot-whole : (W : Shape) (u v : ℕ) → open-slot W u (suc (2 * v)) ≡ target W u v false
 slot-whole W u v =
-  let e : (suc (2 * v) + 1) / 2 - 1 ≡ v = omega arith in
-  rw (ne-eqb (suc (2 * v)) 0 (λ e. omega arith), e, ne-eqb (suc (2 * v) % 2) 0 (λ e. omega arith))
+    let e : (suc (2 * v) + 1) / 2 - 1 ≡ v = omega arith in
+    rw (ne-eqb (suc (2 * v)) 0 (λ e. omega arith), e, ne-eqb (suc (2 * v) % 2) 0 (λ e. omega arith))
 
 slot-divided : (W : Shape) (u v : ℕ) → open-slot W u (suc (suc (2 * v))) ≡ target W u v true
 slot-divided W u v =
-  let e : (suc (suc (2 * v)) + 1) / 2 - 1 ≡ v = omega arith in
-  rw (ne-eqb (suc (suc (2 * v))) 0 (λ e. omega arith), e, eq-eqb (suc (suc (2 * v)) % 2) 0 (omega arith))
+    let e : (suc (suc (2 * v)) + 1) / 2 - 1 ≡ v = omega arith in
+    rw (ne-eqb (suc (suc (2 * v))) 0 (λ e. omega arith), e, eq-eqb (suc (suc (2 * v)) % 2) 0 (omega arith))
 
 -- the results of opening, in order, are those that are given among the places 0 to 2 n
 pub opened-slots : (W : Shape) (u : ℕ) → each (suc (2 * W .size)) (open-slot W u) ≡ opened W u
 opened-slots W u =
-  each-front (2 * W .size) (open-slot W u)
+    each-front (2 * W .size) (open-slot W u)
     ∙ ap (λ l. no-target W u ++ l)
-      (each-pairs (W .size) (λ i. open-slot W u (suc i))
-        ∙ each-cong (W .size) (λ v. open-slot W u (suc (2 * v)) ++ open-slot W u (suc (suc (2 * v)))) (targets W u)
-          (λ v h. ap₂ _++_ (slot-whole W u v) (slot-divided W u v) ∙ both-targets W u v))
+    (each-pairs (W .size) (λ i. open-slot W u (suc i))
+    ∙ each-cong (W .size) (λ v. open-slot W u (suc (2 * v)) ++ open-slot W u (suc (suc (2 * v)))) (targets W u)
+    (λ v h. ap₂ _++_ (slot-whole W u v) (slot-divided W u v) ∙ both-targets W u v))
 
 pub load-slots : (W : Shape) (u x : ℕ) → each (suc (2 * W .size)) (load-slot W u x) ≡ map (λ o. moved (o .shape) x (o .target)) (opened W u)
 load-slots W u x = map-each (λ o. moved (o .shape) x (o .target)) (suc (2 * W .size)) (open-slot W u) ∙ ap (map (λ o. moved (o .shape) x (o .target))) (opened-slots W u)
@@ -128,12 +128,12 @@ even i = ne-eqb (2 * i % 2) 1 (λ e. omega arith)
 module _ {A B : Type 0} (f : Bool → A → List B) (h : A → List B) (e : (a : A) → f false a ++ f true a ≡ h a) (g : ℕ → List A) (small : (i : ℕ) → Small (g i)) where
   doubled-slots : (n : ℕ) → each (2 * n) (λ j. in-each (f (eqb (j % 2) 1)) (g (j / 2))) ≡ in-each h (each n g)
   doubled-slots n =
-    each-pairs n (λ j. in-each (f (eqb (j % 2) 1)) (g (j / 2)))
+      each-pairs n (λ j. in-each (f (eqb (j % 2) 1)) (g (j / 2)))
       ∙ each-cong n (λ i. in-each (f (eqb (2 * i % 2) 1)) (g (2 * i / 2)) ++ in-each (f (eqb (suc (2 * i) % 2) 1)) (g (suc (2 * i) / 2))) (λ i. in-each h (g i))
-        (λ i _.
-          let p : 2 * i / 2 ≡ i = omega arith in
-          let q : suc (2 * i) / 2 ≡ i = omega arith in
-          rw (even i, odd i, p, q) (both (f false) (f true) h e (g i) (small i)))
+      (λ i _.
+      let p : 2 * i / 2 ≡ i = omega arith in
+      let q : suc (2 * i) / 2 ≡ i = omega arith in
+      rw (even i, odd i, p, q) (both (f false) (f true) h e (g i) (small i)))
       ∙ in-each-each h n g
 
 both-cuts : (u : ℕ) (o : Opened) → unlink-slot false u (o .shape) (o .target) ++ unlink-slot true u (o .shape) (o .target) ≡ unlinked u (o .shape) (o .target)
@@ -150,11 +150,11 @@ both-cuts u o = go (o .shape) (o .target)
 small-unlink : (b : Bool) (u : ℕ) (W : Shape) (r : Ref) → Small (unlink-slot b u W r)
 small-unlink b u W null = small-given (not b) W
 small-unlink true u W (at t) =
-  let W₁ : Shape = with-n W (into t (from-u u 𝟘) (W .n)) in
-  small-cond (W .n .shared t) (still-shared W₁ t) [] (small-given (leb 2 (mays W₁ t) || summary-may W₁ t) W₁) tt
+    let W₁ : Shape = with-n W (into t (from-u u 𝟘) (W .n)) in
+    small-cond (W .n .shared t) (still-shared W₁ t) [] (small-given (leb 2 (mays W₁ t) || summary-may W₁ t) W₁) tt
 small-unlink false u W (at t) =
-  let W₁ : Shape = with-n W (into t (from-u u 𝟘) (W .n)) in
-  small-cond (W .n .shared t) (now-unshared W₁ t) (W₁ ∷ [])
+    let W₁ : Shape = with-n W (into t (from-u u 𝟘) (W .n)) in
+    small-cond (W .n .shared t) (now-unshared W₁ t) (W₁ ∷ [])
     (small-given (leb (ones W₁ t) 1) (with-n W₁ (sharing t false (into t (sure-if (eqb (ones W₁ t) 1)) (W₁ .n))))) tt
 
 small-clear : (W : Shape) (u j : ℕ) → Small (clear-slot W u j)
@@ -162,7 +162,7 @@ small-clear W u j = small-all (λ o. unlink-slot (eqb (j % 2) 1) u (o .shape) (o
 
 pub cleared-slots : (W : Shape) (u : ℕ) → each (2 * suc (2 * W .size)) (clear-slot W u) ≡ cleared W u
 cleared-slots W u =
-  doubled-slots (λ b o. unlink-slot b u (o .shape) (o .target)) (λ o. unlinked u (o .shape) (o .target)) (both-cuts u) (open-slot W u) (small-open W u) (suc (2 * W .size))
+    doubled-slots (λ b o. unlink-slot b u (o .shape) (o .target)) (λ o. unlinked u (o .shape) (o .target)) (both-cuts u) (open-slot W u) (small-open W u) (suc (2 * W .size))
     ∙ ap (in-each (λ o. unlinked u (o .shape) (o .target))) (opened-slots W u)
 
 both-ties : (u : ℕ) (r : Ref) (W : Shape) → link-slot false u r W ++ link-slot true u r W ≡ linked u r W
@@ -175,7 +175,7 @@ both-ties u (at w) W = pick (W .n .shared w) _ _ _
 
 pub store-slots : (W : Shape) (u : ℕ) (y : Ref) → each (2 * (2 * suc (2 * W .size))) (store-slot W u y) ≡ in-each (linked u y) (cleared W u)
 store-slots W u y =
-  doubled-slots (λ b U. link-slot b u y U) (linked u y) (both-ties u y) (clear-slot W u) (small-clear W u) (2 * suc (2 * W .size))
+    doubled-slots (λ b U. link-slot b u y U) (linked u y) (both-ties u y) (clear-slot W u) (small-clear W u) (2 * suc (2 * W .size))
     ∙ ap (in-each (linked u y)) (cleared-slots W u)
 
 -- ---- a statement

@@ -5,8 +5,9 @@ ghost use Rattle.model.specs.Finite.{in-each};
 ghost use Rattle.model.specs.Step.{edge};
 ghost use Rattle.shape.specs.Meaning.{meaning, index, opening, Gives};
 ghost use Rattle.shape.specs.Slots.{cut-slot, unlink-slot, clear-slot};
-
-use super::{EDGE, Place, Shape};
+use super::EDGE;
+use super::Place;
+use super::Shape;
 use super::links;
 use super::opening;
 use super::opening::Opened;
@@ -27,11 +28,17 @@ fn cut(s: Shape, u: usize, t: usize, still: bool) -> Raw
     let mut r = s;
     r.links[u * EDGE + t] = 0;
     if f % 2 == 0 {
-        return Raw { given: !still, shape: r };
+        return Raw {
+            given: !still,
+            shape: r,
+        };
     }
     if still {
         if 1 < links::mays_into(&r.links, n, t) {
-            return Raw { given: true, shape: r };
+            return Raw {
+                given: true,
+                shape: r,
+            };
         }
         let given = links::summary_into(&r.flags, &r.links, n, t);
         return Raw { given, shape: r };
@@ -40,9 +47,15 @@ fn cut(s: Shape, u: usize, t: usize, still: bool) -> Raw
     r.flags[t] = f - 1;
     if ones == 1 {
         links::sure_column(&mut r.links, t, EDGE);
-        return Raw { given: true, shape: r };
+        return Raw {
+            given: true,
+            shape: r,
+        };
     }
-    Raw { given: ones < 2, shape: r }
+    Raw {
+        given: ones < 2,
+        shape: r,
+    }
 }
 
 // What comes of one result of opening.
@@ -54,11 +67,17 @@ fn unlink(o: Opened, u: usize, still: bool) -> Raw
     let target = o.target;
     if o.given {
         let Place::At(t) = target else {
-            return Raw { given: !still, shape: s };
+            return Raw {
+                given: !still,
+                shape: s,
+            };
         };
         return cut(s, u, t, still);
     }
-    Raw { given: false, shape: s }
+    Raw {
+        given: false,
+        shape: s,
+    }
 }
 
 // The result of clearing u at place j: from the result j / 2 of opening t unshared, then t still shared.

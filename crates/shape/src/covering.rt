@@ -12,8 +12,9 @@ ghost use Rattle.model.specs.File.{byte, number};
 ghost use Rattle.model.specs.Claim.{shape-of};
 ghost use Rattle.shape.specs.Meaning.{meaning, grid, mask};
 ghost use Rattle.shape.specs.Records.{sized, Readable, keys-agree};
-
-use super::{CELLS, EDGE, Shape};
+use super::CELLS;
+use super::EDGE;
+use super::Shape;
 use super::records;
 use super::truth::Truth;
 
@@ -33,13 +34,24 @@ fn agrees(m: u16, f: u8, q: u16, g: u8) -> bool
     false
 }
 
-fn keys_covered<'a>(masks: &'a [u16; EDGE], flags: &'a [u8; EDGE], n: usize, part: &[u8], width: usize) -> bool
+fn keys_covered<'a>(
+    masks: &'a [u16; EDGE],
+    flags: &'a [u8; EDGE],
+    n: usize,
+    part: &[u8],
+    width: usize,
+) -> bool
     requires { ⌜ (1 ≤ width) × (width ≤ 2) × (n ≤ edge) × (2 + (width + 1) * n ≤ length (now part)) ⌝ }
     ensures { λ r. ⌜ r ≡ every n (λ a. keys-agree (mask (now (masks .entry)) a) (mask (now (flags .entry)) a) (number width (now (part .entry)) (2 + (width + 1) * a)) (byte (now (part .entry)) (2 + (width + 1) * a + width))) ⌝ }
 {
     let mut at: usize = 2;
     for a in 0..n {
-        if !agrees(masks[a], flags[a], records::mask_at(part, at, width), part[at + width]) {
+        if !agrees(
+            masks[a],
+            flags[a],
+            records::mask_at(part, at, width),
+            part[at + width],
+        ) {
             return false;
         }
         at += width + 1;

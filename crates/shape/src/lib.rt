@@ -1,28 +1,28 @@
 // The engine: a shape by value, what a statement makes of it, and its record in the file. Each function equals its
 // definition in `model`. A shape is passed by value between the stages of a step; whatever runs in a loop takes single
 // numbers, or lends the one array that it looks at, since a struct by value is copied at each call.
-pub mod truth;
 mod bits;
-mod links;
-pub mod variables;
-pub mod opening;
 pub mod clearing;
-pub mod linking;
-pub mod folding;
-pub mod stepping;
-pub mod records;
 pub mod covering;
+pub mod folding;
+pub mod linking;
+mod links;
+pub mod opening;
+pub mod records;
+pub mod stepping;
+pub mod truth;
+pub mod variables;
 
 ghost use mathlib.Core.Path.{_≡_};
 ghost use Prim.Native.Nat.{_<_};
 ghost use Rattle.model.specs.Shape as M;
 ghost use Rattle.model.specs.Step.{edge, with-n, into, from-u};
 ghost use Rattle.shape.specs.Meaning.{meaning, none, truth-of};
-
 use truth::Truth;
 
 // A working shape has at most so many individuals and link values.
 pub const EDGE: usize = 11;
+
 pub const CELLS: usize = EDGE * EDGE;
 
 // Individual a has the variables masks[a]; flags[a] is 1 if it is shared, plus 2 if it is a summary; its link to b has

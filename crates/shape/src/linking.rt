@@ -5,8 +5,9 @@ ghost use Rattle.model.specs.Finite.{in-each};
 ghost use Rattle.model.specs.Step.{edge};
 ghost use Rattle.shape.specs.Meaning.{meaning, ref, index, one, Gives};
 ghost use Rattle.shape.specs.Slots.{tie-slot, link-slot, store-slot};
-
-use super::{EDGE, Place, Shape};
+use super::EDGE;
+use super::Place;
+use super::Shape;
 use super::bits;
 use super::clearing;
 use super::clearing::Raw;
@@ -22,7 +23,10 @@ fn tie(s: Shape, u: usize, w: usize, second: bool) -> Raw
     let mut r = s;
     if f % 2 == 1 {
         r.links[u * EDGE + w] = 1;
-        return Raw { given: !second, shape: r };
+        return Raw {
+            given: !second,
+            shape: r,
+        };
     }
     if second {
         let given = links::some_into(&r.links, n, w, EDGE);
@@ -44,7 +48,10 @@ fn link(o: Raw, u: usize, y: Place, second: bool) -> Raw
     let s = o.shape;
     if o.given {
         let Place::At(w) = y else {
-            return Raw { given: !second, shape: s };
+            return Raw {
+                given: !second,
+                shape: s,
+            };
         };
         return tie(s, u, w, second);
     }

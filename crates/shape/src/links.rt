@@ -8,8 +8,8 @@ ghost use Rattle.model.specs.Truth.{truth, 𝟘, may, must, sure};
 ghost use Rattle.model.specs.Finite.{any, count};
 ghost use Rattle.model.specs.Step.{edge, copy, sure-but, all-zero};
 ghost use Rattle.shape.specs.Meaning.{cells, grid, row, column, summary, Matrix};
-
-use super::{CELLS, EDGE};
+use super::CELLS;
+use super::EDGE;
 use super::truth::Truth;
 
 // ---- changes
@@ -65,9 +65,9 @@ pub fn copy_links(links: &mut [u8; CELLS], n: usize, v: usize)
         let w = links[v * EDGE + b];
         links[n * EDGE + b] = w;
     }
-    for a in 0..EDGE {
-        let w = links[a * EDGE + v];
-        links[a * EDGE + n] = w;
+    for c in 0..EDGE {
+        let w = links[c * EDGE + v];
+        links[c * EDGE + n] = w;
     }
 }
 

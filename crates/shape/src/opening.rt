@@ -10,8 +10,10 @@ ghost use Rattle.model.specs.Step as S;
 ghost use Rattle.model.specs.Step.{edge};
 ghost use Rattle.shape.specs.Meaning.{made, meaning, summary, shared, grid, Opens};
 ghost use Rattle.shape.specs.Slots.{open-slot, opens};
-
-use super::{CELLS, EDGE, Place, Shape};
+use super::CELLS;
+use super::EDGE;
+use super::Place;
+use super::Shape;
 use super::links;
 use super::truth::Truth;
 
@@ -59,12 +61,20 @@ fn settle(s: Shape, u: usize, t: usize) -> Opened
     let n = s.n;
     if s.flags[t] % 2 == 1 {
         let given = links::some_into(&s.links, n, t, u);
-        return Opened { given, shape: s, target: Place::At(t) };
+        return Opened {
+            given,
+            shape: s,
+            target: Place::At(t),
+        };
     }
     let given = !links::one_into(&s.links, n, t, u);
     let mut r = s;
     links::sure_column(&mut r.links, t, u);
-    Opened { given, shape: r, target: Place::At(t) }
+    Opened {
+        given,
+        shape: r,
+        target: Place::At(t),
+    }
 }
 
 // v may be the target.
@@ -89,7 +99,13 @@ fn divides(f: u8, v: u8) -> bool
 }
 
 // Whether place j can have a result: a look that costs no copy of the shape.
-pub fn opens<'a>(flags: &'a [u8; EDGE], links: &'a [u8; CELLS], n: usize, u: usize, j: usize) -> bool
+pub fn opens<'a>(
+    flags: &'a [u8; EDGE],
+    links: &'a [u8; CELLS],
+    n: usize,
+    u: usize,
+    j: usize,
+) -> bool
     requires { ⌜ (n < edge) × (u < edge) × (j ≤ 2 * n) ⌝ }
     ensures { λ r. ⌜ r ≡ opens (made n (λ a. 0) (summary (now (flags .entry))) (shared (now (flags .entry))) (grid (now (links .entry)))) u j ⌝ }
 {
@@ -110,7 +126,11 @@ fn not_opened(s: Shape) -> Opened
     requires { ⌜ s .n ≤ edge ⌝ }
     ensures { λ r. ⌜ Opens [] r ⌝ }
 {
-    Opened { given: false, shape: s, target: Place::Null }
+    Opened {
+        given: false,
+        shape: s,
+        target: Place::Null,
+    }
 }
 
 // All links of u become 0; given if none is 1.
@@ -122,7 +142,11 @@ fn no_target(s: Shape, u: usize) -> Opened
     let given = !links::one_from(&s.links, n, u, EDGE);
     let mut r = s;
     links::zero_row(&mut r.links, u);
-    Opened { given, shape: r, target: Place::Null }
+    Opened {
+        given,
+        shape: r,
+        target: Place::Null,
+    }
 }
 
 // The result of opening u at place j: 0 without target, 1 + 2 v with v whole, 2 + 2 v with v divided.

@@ -10,8 +10,9 @@ ghost use Rattle.model.specs.File.{byte, number};
 ghost use Rattle.model.specs.Claim.{shape-of};
 ghost use Rattle.shape.specs.Meaning.{meaning, mask, grid};
 ghost use Rattle.shape.specs.Records.{sized, Readable};
-
-use super::{CELLS, EDGE, Shape};
+use super::CELLS;
+use super::EDGE;
+use super::Shape;
 
 // ---- numbers
 
@@ -95,5 +96,10 @@ pub fn read(part: &[u8], width: usize) -> Shape
     let masks = masks_of(part, width, k);
     let flags = flags_of(part, width, k);
     let links = links_of(part, 2 + (width + 1) * k, k);
-    Shape { n: k, masks, flags, links }
+    Shape {
+        n: k,
+        masks,
+        flags,
+        links,
+    }
 }

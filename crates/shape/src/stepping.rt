@@ -12,8 +12,11 @@ ghost use Rattle.model.specs.Step.{edge, folded-result};
 ghost use Rattle.model.specs.Claim.{op-of};
 ghost use Rattle.shape.specs.Meaning.{made, meaning, mask, summary, shared, grid, ref, one, trimmed-result, Gives};
 ghost use Rattle.shape.specs.Slots.{load-slot, clear-slot, store-slot, through-slot, closed, places-of, outcome-slot, Yields};
-
-use super::{CELLS, EDGE, Outcome, Place, Shape};
+use super::CELLS;
+use super::EDGE;
+use super::Outcome;
+use super::Place;
+use super::Shape;
 use super::clearing;
 use super::clearing::Raw;
 use super::folding;
@@ -41,14 +44,20 @@ fn nothing(s: Shape) -> Raw
     requires { ⌜ s .n ≤ edge ⌝ }
     ensures { λ r. ⌜ Gives [] r ⌝ }
 {
-    Raw { given: false, shape: s }
+    Raw {
+        given: false,
+        shape: s,
+    }
 }
 
 fn sole(s: Shape) -> Raw
     requires { ⌜ s .n ≤ edge ⌝ }
     ensures { λ r. ⌜ Gives (meaning s ∷ []) r ⌝ }
 {
-    Raw { given: true, shape: s }
+    Raw {
+        given: true,
+        shape: s,
+    }
 }
 
 // Ops 2 and 3: the variable moves, by its value before the step.
@@ -74,7 +83,10 @@ fn load(x: u8, y: u8, s: Shape, j: usize) -> Raw
     let w = o.shape;
     let t = o.target;
     let r = variables::moved(w, x, t);
-    Raw { given: o.given, shape: r }
+    Raw {
+        given: o.given,
+        shape: r,
+    }
 }
 
 // Op 6: x's individual is cleared.
@@ -136,7 +148,16 @@ fn opening_place(op: u8, j: usize) -> usize
 }
 
 // Whether ops 5 to 7 surely have no result at place j: a look that costs no copy of the shape.
-fn closed<'a>(op: u8, x: u8, y: u8, masks: &'a [u16; EDGE], flags: &'a [u8; EDGE], links: &'a [u8; CELLS], n: usize, j: usize) -> bool
+fn closed<'a>(
+    op: u8,
+    x: u8,
+    y: u8,
+    masks: &'a [u16; EDGE],
+    flags: &'a [u8; EDGE],
+    links: &'a [u8; CELLS],
+    n: usize,
+    j: usize,
+) -> bool
     requires { ⌜ (x < 16) × (y < 16) × (n < edge) × (4 < op) × (op < 8) × (j < places-of op n) ⌝ }
     ensures { λ r. ⌜ r ≡ closed op x y (made n (mask (now (masks .entry))) (summary (now (flags .entry))) (shared (now (flags .entry))) (grid (now (links .entry)))) j ⌝ }
 {
@@ -194,9 +215,17 @@ fn finished(o: Raw, successor: usize) -> Outcome
     let s = o.shape;
     if o.given {
         let shape = folding::fold(s);
-        return Outcome { given: true, successor, shape };
+        return Outcome {
+            given: true,
+            successor,
+            shape,
+        };
     }
-    Outcome { given: false, successor, shape: s }
+    Outcome {
+        given: false,
+        successor,
+        shape: s,
+    }
 }
 
 // The outcome of a statement at place j.
@@ -211,7 +240,11 @@ pub fn outcome(op: u8, x: u8, y: u8, s1: usize, s2: usize, s: Shape, j: usize) -
         5..=7 => {
             let n = s.n;
             if closed(op, x, y, &s.masks, &s.flags, &s.links, n, j) {
-                return Outcome { given: false, successor: 0, shape: s };
+                return Outcome {
+                    given: false,
+                    successor: 0,
+                    shape: s,
+                };
             }
             finished(through(op, x, y, s, j), s1)
         }
@@ -221,6 +254,10 @@ pub fn outcome(op: u8, x: u8, y: u8, s1: usize, s2: usize, s: Shape, j: usize) -
             }
             finished(sole(s), s2)
         }
-        _ => Outcome { given: false, successor: 0, shape: s },
+        _ => Outcome {
+            given: false,
+            successor: 0,
+            shape: s,
+        },
     }
 }

@@ -6,7 +6,9 @@ pub struct Truth(pub u8);
 
 impl Truth {
     pub const ZERO: Truth = Truth(0);
+
     pub const ONE: Truth = Truth(1);
+
     pub const HALF: Truth = Truth(2);
 
     // The common value, or 1/2.

@@ -7,8 +7,9 @@ ghost use Rattle.model.specs.Shape as M;
 ghost use Rattle.model.specs.Step as S;
 ghost use Rattle.model.specs.Step.{edge};
 ghost use Rattle.shape.specs.Meaning.{meaning, mask, ref, index, Masks};
-
-use super::{EDGE, Place, Shape};
+use super::EDGE;
+use super::Place;
+use super::Shape;
 use super::bits;
 use super::links;
 

@@ -4,8 +4,8 @@ ghost use mathlib.Core.Path.{_≡_};
 ghost use Prim.Native.Nat.{_<_, _≤_};
 ghost use lib.ListN.{length};
 ghost use Rattle.model.specs.Step.{edge};
-
-use shape::{Outcome, Shape};
+use shape::Outcome;
+use shape::Shape;
 use shape::records;
 use shape::stepping;
 
@@ -186,7 +186,14 @@ fn line(text: &[u8], place: usize) -> usize
     word(s2.value as usize);
     io::write_all(1, b" ;");
     words(s);
-    outcomes(op.value, variable(x.value), variable(y.value), s1.value as usize, s2.value as usize, s);
+    outcomes(
+        op.value,
+        variable(x.value),
+        variable(y.value),
+        s1.value as usize,
+        s2.value as usize,
+        s,
+    );
     io::write_all(1, b"\n");
     row.next
 }

@@ -12,7 +12,7 @@ element-copy-out-if1 : tie.Need-element-copy-out-if1
 element-copy-out-if1 c = search needs
 
 read-requires : tie.Need-read-requires
-read-requires c κs = 
+read-requires c κs =
     let l = c .before .before .before .args .bytes .now in
     let k = getD l 1 0 in
     let z = square-low k (c .before .if1 .taken) in

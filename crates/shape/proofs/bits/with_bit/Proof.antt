@@ -24,14 +24,14 @@ alone-requires-2 : tie.Need-alone-requires-2
 alone-requires-2 c κs = search needs
 
 add-result : tie.Need-add-result
-add-result c = 
+add-result c =
     let a = c .before .before .before .before .args in
     let z = put-add (a .x) (a .m) (sym (c .before .before .before .holds .ensures) ∙ c .before .before .if1 .left) in
     let y = put-fits 16 (a .x) (a .m) (omega arith) (omega arith) in
     let e = c .alone2 .ensures in omega arith
 
 returns-3 : tie.Need-returns-3
-returns-3 c = 
+returns-3 c =
     let a = c .before .before .before .before .args in
     rw (c .alone2 .ensures, c .before .if3 .taken) (put-add (a .x) (a .m) (sym (c .before .before .before .holds .ensures) ∙ c .before .before .if1 .left))
 

@@ -15,7 +15,7 @@ unlink-requires : tie.Need-unlink-requires
 unlink-requires c κs = search needs
 
 returns : tie.Need-returns
-returns c = 
+returns c =
     let a = c .before .before .args in
     let r = c .unlink .ensures in
     record {

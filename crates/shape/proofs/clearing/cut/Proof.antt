@@ -36,7 +36,7 @@ element-write-r : tie.Need-element-write-r
 element-write-r c = search needs
 
 returns : tie.Need-returns
-returns c = 
+returns c =
     let a = c .before .before .args in
     let s = a .t1 in
     let f = getD (s .flags) (a .t) 0 in
@@ -52,7 +52,7 @@ mays-into-requires : tie.Need-mays-into-requires
 mays-into-requires c κs = search needs
 
 returns-2 : tie.Need-returns-2
-returns-2 c = 
+returns-2 c =
     let a = c .before .before .before .before .before .before .before .args in
     let s = a .t1 in
     let f = getD (s .flags) (a .t) 0 in
@@ -62,9 +62,9 @@ returns-2 c =
     let d : f % 2 ≢ 0 = c .before .before .before .before .before .if1 .left in
     record {
       is =
-        rw (shared-at (s .flags) (a .t) ∙ eq-eqb (f % 2) 1 (omega arith), c .before .before .before .before .if2 .taken)
-        (still-more (made (s .n) (mask (s .masks)) (summary (s .flags)) (shared (s .flags)) (grid (set (s .links) (a .u * edge + a .t) 0))) (a .t) (c .before .mays-into .result) (c .before .mays-into .ensures) (c .if3 .taken)
-        ∙ ap (λ (g : ℕ → ℕ → Truth). S.still-shared (made (s .n) (mask (s .masks)) (summary (s .flags)) (shared (s .flags)) g) (a .t)) l);
+          rw (shared-at (s .flags) (a .t) ∙ eq-eqb (f % 2) 1 (omega arith), c .before .before .before .before .if2 .taken)
+          (still-more (made (s .n) (mask (s .masks)) (summary (s .flags)) (shared (s .flags)) (grid (set (s .links) (a .u * edge + a .t) 0))) (a .t) (c .before .mays-into .result) (c .before .mays-into .ensures) (c .if3 .taken)
+          ∙ ap (λ (g : ℕ → ℕ → Truth). S.still-shared (made (s .n) (mask (s .masks)) (summary (s .flags)) (shared (s .flags)) g) (a .t)) l);
       size = omega arith;
     }
 
@@ -72,7 +72,7 @@ summary-into-requires : tie.Need-summary-into-requires
 summary-into-requires c κs = search needs
 
 returns-3 : tie.Need-returns-3
-returns-3 c = 
+returns-3 c =
     let a = c .before .before .before .before .before .before .before .before .before .before .before .args in
     let s = a .t1 in
     let f = getD (s .flags) (a .t) 0 in
@@ -82,9 +82,9 @@ returns-3 c =
     let d : f % 2 ≢ 0 = c .before .before .before .before .before .before .before .before .before .if1 .left in
     record {
       is =
-        rw (shared-at (s .flags) (a .t) ∙ eq-eqb (f % 2) 1 (omega arith), c .before .before .before .before .before .before .before .before .if2 .taken)
-        (still-few (made (s .n) (mask (s .masks)) (summary (s .flags)) (shared (s .flags)) (grid (set (s .links) (a .u * edge + a .t) 0))) (a .t) (c .before .before .before .before .before .mays-into .result) (c .before .before .before .before .before .mays-into .ensures) (c .before .before .before .before .if3 .left) (c .summary-into .ensures)
-        ∙ ap (λ (g : ℕ → ℕ → Truth). S.still-shared (made (s .n) (mask (s .masks)) (summary (s .flags)) (shared (s .flags)) g) (a .t)) l);
+          rw (shared-at (s .flags) (a .t) ∙ eq-eqb (f % 2) 1 (omega arith), c .before .before .before .before .before .before .before .before .if2 .taken)
+          (still-few (made (s .n) (mask (s .masks)) (summary (s .flags)) (shared (s .flags)) (grid (set (s .links) (a .u * edge + a .t) 0))) (a .t) (c .before .before .before .before .before .mays-into .result) (c .before .before .before .before .before .mays-into .ensures) (c .before .before .before .before .if3 .left) (c .summary-into .ensures)
+          ∙ ap (λ (g : ℕ → ℕ → Truth). S.still-shared (made (s .n) (mask (s .masks)) (summary (s .flags)) (shared (s .flags)) g) (a .t)) l);
       size = omega arith;
     }
 
@@ -101,7 +101,7 @@ sure-column-requires : tie.Need-sure-column-requires
 sure-column-requires c κs = let a = c .before .before .before .before .before .before .before .before .args in (length-set (a .t1 .links) (a .u * edge + a .t) 0 ∙ links-length (c .before .before .before .before .before .before .before .before), omega arith)
 
 returns-4 : tie.Need-returns-4
-returns-4 c = 
+returns-4 c =
     let a = c .before .before .before .before .before .before .before .before .before .args in
     let s = a .t1 in
     let f = getD (s .flags) (a .t) 0 in
@@ -111,15 +111,15 @@ returns-4 c =
     let d : f % 2 ≢ 0 = c .before .before .before .before .before .before .before .if1 .left in
     record {
       is =
-        rw (shared-at (s .flags) (a .t) ∙ eq-eqb (f % 2) 1 (omega arith), c .before .before .before .before .before .before .if2 .left)
-        (unshared-one (made (s .n) (mask (s .masks)) (summary (s .flags)) (shared (s .flags)) (grid (set (s .links) (a .u * edge + a .t) 0))) (a .t) _ (c .before .before .before .ones-into .result) (c .before .before .before .ones-into .ensures) (c .before .before .if4 .taken)
-        (made-eq refl refl (taken-summary (s .flags) (a .t) (omega arith) d) (taken-shared (s .flags) (a .t) (omega arith) d) (c .sure-column .ensures .says ∙ sure-all (a .t) (set (s .links) (a .u * edge + a .t) 0)))
-        ∙ ap (λ (g : ℕ → ℕ → Truth). S.now-unshared (made (s .n) (mask (s .masks)) (summary (s .flags)) (shared (s .flags)) g) (a .t)) l);
+          rw (shared-at (s .flags) (a .t) ∙ eq-eqb (f % 2) 1 (omega arith), c .before .before .before .before .before .before .if2 .left)
+          (unshared-one (made (s .n) (mask (s .masks)) (summary (s .flags)) (shared (s .flags)) (grid (set (s .links) (a .u * edge + a .t) 0))) (a .t) _ (c .before .before .before .ones-into .result) (c .before .before .before .ones-into .ensures) (c .before .before .if4 .taken)
+          (made-eq refl refl (taken-summary (s .flags) (a .t) (omega arith) d) (taken-shared (s .flags) (a .t) (omega arith) d) (c .sure-column .ensures .says ∙ sure-all (a .t) (set (s .links) (a .u * edge + a .t) 0)))
+          ∙ ap (λ (g : ℕ → ℕ → Truth). S.now-unshared (made (s .n) (mask (s .masks)) (summary (s .flags)) (shared (s .flags)) g) (a .t)) l);
       size = omega arith;
     }
 
 returns-5 : tie.Need-returns-5
-returns-5 c = 
+returns-5 c =
     let a = c .before .before .before .before .before .before .before .args in
     let s = a .t1 in
     let f = getD (s .flags) (a .t) 0 in
@@ -129,10 +129,10 @@ returns-5 c =
     let d : f % 2 ≢ 0 = c .before .before .before .before .before .if1 .left in
     record {
       is =
-        rw (shared-at (s .flags) (a .t) ∙ eq-eqb (f % 2) 1 (omega arith), c .before .before .before .before .if2 .left)
-        (unshared-not (made (s .n) (mask (s .masks)) (summary (s .flags)) (shared (s .flags)) (grid (set (s .links) (a .u * edge + a .t) 0))) (a .t) _ (c .before .ones-into .result) (c .before .ones-into .ensures) (c .if4 .left)
-        (made-eq refl refl (taken-summary (s .flags) (a .t) (omega arith) d) (taken-shared (s .flags) (a .t) (omega arith) d) (column-same (a .t) (grid (set (s .links) (a .u * edge + a .t) 0))))
-        ∙ ap (λ (g : ℕ → ℕ → Truth). S.now-unshared (made (s .n) (mask (s .masks)) (summary (s .flags)) (shared (s .flags)) g) (a .t)) l);
+          rw (shared-at (s .flags) (a .t) ∙ eq-eqb (f % 2) 1 (omega arith), c .before .before .before .before .if2 .left)
+          (unshared-not (made (s .n) (mask (s .masks)) (summary (s .flags)) (shared (s .flags)) (grid (set (s .links) (a .u * edge + a .t) 0))) (a .t) _ (c .before .ones-into .result) (c .before .ones-into .ensures) (c .if4 .left)
+          (made-eq refl refl (taken-summary (s .flags) (a .t) (omega arith) d) (taken-shared (s .flags) (a .t) (omega arith) d) (column-same (a .t) (grid (set (s .links) (a .u * edge + a .t) 0))))
+          ∙ ap (λ (g : ℕ → ℕ → Truth). S.now-unshared (made (s .n) (mask (s .masks)) (summary (s .flags)) (shared (s .flags)) g) (a .t)) l);
       size = omega arith;
     }
 

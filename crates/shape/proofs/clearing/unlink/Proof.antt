@@ -20,7 +20,7 @@ enum-told : tie.Need-enum-told
 enum-told c = search needs
 
 returns : tie.Need-returns
-returns c = 
+returns c =
     let a = c .before .before .before .before .args in
     let e : Null ≡ a .o .target = cc in
     record {
@@ -32,7 +32,7 @@ cut-requires : tie.Need-cut-requires
 cut-requires c κs = let e = ap index (found c) in omega arith
 
 returns-2 : tie.Need-returns-2
-returns-2 c = 
+returns-2 c =
     let a = c .before .before .before .before .before .before .args in
     let r = c .cut .ensures in
     record {

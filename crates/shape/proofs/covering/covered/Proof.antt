@@ -20,7 +20,7 @@ count-requires : tie.Need-count-requires
 count-requires c κs = search needs
 
 returns : tie.Need-returns
-returns c = 
+returns c =
     let g = c .before .before .before .before .args in
     let s = g .t1 in
     let T = shape-of (sized (g .width)) (g .part .now) in
@@ -28,7 +28,7 @@ returns c =
     sym (ap (λ (b : Bool). b && every (s .n) (covered-at (meaning s) T)) (ne-eqb (s .n) (size-at (g .part .now) 0) (λ q. d (q ∙ sym (c .before .count .ensures)))))
 
 keys-covered-requires : tie.Need-keys-covered-requires
-keys-covered-requires c κs = 
+keys-covered-requires c κs =
     let g = c .before .before .before .before .before .before .before .args in
     let s = g .t1 in
     let h = c .before .before .before .before .before .before .before .pre in
@@ -45,7 +45,7 @@ add-links-covered : tie.Need-add-links-covered
 add-links-covered c = search needs
 
 mul-links-covered : tie.Need-mul-links-covered
-mul-links-covered c = 
+mul-links-covered c =
     let g = c .before .before .before .before .before .before .before .before .before .before .before .args in
     let s = g .t1 in
     let h = c .before .before .before .before .before .before .before .before .before .before .before .pre in
@@ -59,7 +59,7 @@ mul-links-covered c =
     rw e (omega arith)
 
 add-links-covered-2 : tie.Need-add-links-covered-2
-add-links-covered-2 c = 
+add-links-covered-2 c =
     let g = c .before .before .before .before .before .before .before .before .before .before .before .args in
     let s = g .t1 in
     let h = c .before .before .before .before .before .before .before .before .before .before .before .pre in
@@ -73,7 +73,7 @@ add-links-covered-2 c =
     rw e (omega arith)
 
 links-covered-requires : tie.Need-links-covered-requires
-links-covered-requires c κs = 
+links-covered-requires c κs =
     let g = c .before .before .before .before .before .before .before .before .before .before .before .args in
     let s = g .t1 in
     let h = c .before .before .before .before .before .before .before .before .before .before .before .pre in
@@ -87,7 +87,7 @@ links-covered-requires c κs =
     rw e (omega arith, omega arith)
 
 returns-2 : tie.Need-returns-2
-returns-2 c = 
+returns-2 c =
     let g = c .before .before .before .before .before .before .before .before .before .before .before .before .args in
     let s = g .t1 in
     let h = c .before .before .before .before .before .before .before .before .before .before .before .before .pre in
@@ -101,7 +101,7 @@ returns-2 c =
     ap (λ (b : Bool). b && c .links-covered .result) (sym (sym (c .before .before .before .before .keys-covered .ensures) ∙ c .before .before .before .if2 .taken)) ∙ ap (λ (b : Bool). every (s .n) (key-covered (s .n) (s .masks) (s .flags) (s .links) (g .part .now) (g .width)) && b) (c .links-covered .ensures) ∙ covered-read (s .n) (s .masks) (s .flags) (s .links) (g .part .now) (g .width) e
 
 returns-3 : tie.Need-returns-3
-returns-3 c = 
+returns-3 c =
     let g = c .before .before .before .before .before .before .before .before .before .args in
     let s = g .t1 in
     let h = c .before .before .before .before .before .before .before .before .before .pre in

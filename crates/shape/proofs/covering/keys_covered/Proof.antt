@@ -46,7 +46,7 @@ agrees-requires : tie.Need-agrees-requires Inv-loop μ-loop
 agrees-requires c κs = search needs
 
 returns : tie.Need-returns Inv-loop μ-loop
-returns c = 
+returns c =
     let g = c .before .before .before .before .before .before .before .before .before .args in
     let s = c .before .before .before .before .before .before .before .loop in
     sym (every-fails (g .n) (λ (a : ℕ). keys-agree (mask (g .masks .now) a) (mask (g .flags .now) a) (number (g .width) (g .part .now) (2 + (g .width + 1) * a)) (byte (g .part .now) (2 + (g .width + 1) * a + g .width))) (s .a) (omega arith) (sym (same-test (mask-at (g .masks .now) (s .a)) (mask-at (g .flags .now) (s .a)) (c .before .before .before .mask-at .ensures ∙ ap (number (g .width) (g .part .now)) (s .inv .1)) (ap (λ (x : ℕ). byte (g .part .now) (x + g .width)) (s .inv .1))) ∙ sym (c .before .agrees .ensures) ∙ not-true (c .if1 .taken)))
@@ -64,7 +64,7 @@ loop-less : tie.Need-loop-less Inv-loop μ-loop
 loop-less c = search needs
 
 loop-again : tie.Need-loop-again Inv-loop μ-loop
-loop-again c = 
+loop-again c =
     let g = c .before .before .before .before .before .before .before .before .before .args in
     let s = c .before .before .before .before .before .before .before .loop in
     let h = c .before .before .before .before .before .before .before .before .before .pre in
@@ -72,7 +72,7 @@ loop-again c =
     (omega arith, omega arith, every-more (λ (a : ℕ). keys-agree (mask (g .masks .now) a) (mask (g .flags .now) a) (number (g .width) (g .part .now) (2 + (g .width + 1) * a)) (byte (g .part .now) (2 + (g .width + 1) * a + g .width))) (s .a) (s .inv .2) (sym (same-test (mask-at (g .masks .now) (s .a)) (mask-at (g .flags .now) (s .a)) (c .before .before .before .mask-at .ensures ∙ ap (number (g .width) (g .part .now)) (s .inv .1)) (ap (λ (x : ℕ). byte (g .part .now) (x + g .width)) (s .inv .1))) ∙ sym (c .before .agrees .ensures) ∙ not-not (c .if1 .left)))
 
 returns-2 : tie.Need-returns-2 Inv-loop μ-loop
-returns-2 c = 
+returns-2 c =
     let g = c .before .before .before .args in
     let s = c .before .loop in
     let e : s .a ≡ g .n = omega arith in

@@ -28,7 +28,7 @@ row-covered-requires : tie.Need-row-covered-requires Inv-loop μ-loop
 row-covered-requires c κs = let h = c .before .before .before .pre in let g = c .before .before .before .args in let s = c .before .loop in let z = step-fits (g .n) (s .a) (g .n) (omega arith) in let y = s .inv .1 in (omega arith, omega arith, omega arith)
 
 returns : tie.Need-returns Inv-loop μ-loop
-returns c = 
+returns c =
     let g = c .before .before .before .before .before .args in
     let s = c .before .before .before .loop in
     sym (every-fails (g .n) (λ (a : ℕ). every (g .n) (λ (b : ℕ). under (grid (g .links .now) a b) (truth (byte (g .part .now) (g .place + g .n * a + b))))) (s .a) (omega arith) (ap (λ (p : ℕ). every (g .n) (λ (b : ℕ). under (grid (g .links .now) (s .a) b) (truth (byte (g .part .now) (p + b))))) (sym (s .inv .1)) ∙ sym (c .before .row-covered .ensures) ∙ not-true (c .if1 .taken)))
@@ -43,7 +43,7 @@ loop-less : tie.Need-loop-less Inv-loop μ-loop
 loop-less c = search needs
 
 loop-again : tie.Need-loop-again Inv-loop μ-loop
-loop-again c = 
+loop-again c =
     let g = c .before .before .before .before .before .args in
     let s = c .before .before .before .loop in
     let z = step-next (g .n) (s .a) in
@@ -51,7 +51,7 @@ loop-again c =
     (omega arith, omega arith, every-more (λ (a : ℕ). every (g .n) (λ (b : ℕ). under (grid (g .links .now) a b) (truth (byte (g .part .now) (g .place + g .n * a + b))))) (s .a) (s .inv .2) (ap (λ (p : ℕ). every (g .n) (λ (b : ℕ). under (grid (g .links .now) (s .a) b) (truth (byte (g .part .now) (p + b))))) (sym (s .inv .1)) ∙ sym (c .before .row-covered .ensures) ∙ not-not (c .if1 .left)))
 
 returns-2 : tie.Need-returns-2 Inv-loop μ-loop
-returns-2 c = 
+returns-2 c =
     let g = c .before .before .before .args in
     let s = c .before .loop in
     let e : s .a ≡ g .n = omega arith in

@@ -43,7 +43,7 @@ under-requires : tie.Need-under-requires Inv-loop μ-loop
 under-requires c κs = search needs
 
 returns : tie.Need-returns Inv-loop μ-loop
-returns c = 
+returns c =
     let g = c .before .before .before .before .before .before .before .args in
     let s = c .before .before .before .before .before .loop in
     sym (every-fails (g .n) (λ (b : ℕ). under (grid (g .links .now) (g .a) b) (truth (byte (g .part .now) (g .at + b)))) (s .b) (omega arith) (ap (λ (v : Truth). under v (truth (byte (g .part .now) (g .at + s .b)))) (sym (grid-at (g .links .now) (g .a) (s .b) (omega arith) (omega arith))) ∙ sym (c .before .under .ensures) ∙ not-true (c .if1 .taken)))
@@ -55,13 +55,13 @@ loop-less : tie.Need-loop-less Inv-loop μ-loop
 loop-less c = search needs
 
 loop-again : tie.Need-loop-again Inv-loop μ-loop
-loop-again c = 
+loop-again c =
     let g = c .before .before .before .before .before .before .before .args in
     let s = c .before .before .before .before .before .loop in
     (omega arith, every-more (λ (b : ℕ). under (grid (g .links .now) (g .a) b) (truth (byte (g .part .now) (g .at + b)))) (s .b) (s .inv .1) (ap (λ (v : Truth). under v (truth (byte (g .part .now) (g .at + s .b)))) (sym (grid-at (g .links .now) (g .a) (s .b) (omega arith) (omega arith))) ∙ sym (c .before .under .ensures) ∙ not-not (c .if1 .left)))
 
 returns-2 : tie.Need-returns-2 Inv-loop μ-loop
-returns-2 c = 
+returns-2 c =
     let g = c .before .before .before .args in
     let s = c .before .loop in
     let e : s .b ≡ g .n = omega arith in

@@ -20,7 +20,7 @@ enum-told : tie.Need-enum-told
 enum-told c = search needs
 
 returns : tie.Need-returns
-returns c = 
+returns c =
     let a = c .before .before .before .before .args in
     let e : Null ≡ a .y = cc in
     record {
@@ -32,7 +32,7 @@ tie-requires : tie.Need-tie-requires
 tie-requires c κs = let e = ap index (found c) in omega arith
 
 returns-2 : tie.Need-returns-2
-returns-2 c = 
+returns-2 c =
     let a = c .before .before .before .before .before .before .args in
     let r = c .tie .ensures in
     record {

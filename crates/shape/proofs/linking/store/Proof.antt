@@ -15,7 +15,7 @@ link-requires : tie.Need-link-requires
 link-requires c κs = search needs
 
 returns : tie.Need-returns
-returns c = 
+returns c =
     let a = c .before .before .args in
     let r = c .link .ensures in
     record {

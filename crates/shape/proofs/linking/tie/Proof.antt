@@ -34,7 +34,7 @@ element-write-r : tie.Need-element-write-r
 element-write-r c = search needs
 
 returns : tie.Need-returns
-returns c = 
+returns c =
     let a = c .before .before .args in
     let s = a .t1 in
     let y = links-length (c .before .before) in
@@ -63,7 +63,7 @@ element-write-r-3 : tie.Need-element-write-r-3
 element-write-r-3 c = search needs
 
 returns-2 : tie.Need-returns-2
-returns-2 c = 
+returns-2 c =
     let a = c .before .before .before .before .before .before .before .args in
     let s = a .t1 in
     let y = links-length (c .before .before .before .before .before .before .before) in
@@ -71,9 +71,9 @@ returns-2 c =
     let d = c .before .before .before .before .before .if1 .left in
     record {
       is =
-        rw (c .raised .ensures, shared-at (s .flags) (a .w) ∙ ne-eqb _ 1 d, c .before .before .before .before .if2 .taken)
-        (ap₂ given (c .before .some-into .ensures ∙ any-all (s .n) (λ (b : ℕ). may (grid (s .links) b (a .w))) (omega arith))
-        (made-eq refl refl (given-summary (s .flags) (a .w) (omega arith) d) (given-shared (s .flags) (a .w) (omega arith) d) (link-set (s .links) (a .u) (a .w) 1 y (omega arith) (omega arith))));
+          rw (c .raised .ensures, shared-at (s .flags) (a .w) ∙ ne-eqb _ 1 d, c .before .before .before .before .if2 .taken)
+          (ap₂ given (c .before .some-into .ensures ∙ any-all (s .n) (λ (b : ℕ). may (grid (s .links) b (a .w))) (omega arith))
+          (made-eq refl refl (given-summary (s .flags) (a .w) (omega arith) d) (given-shared (s .flags) (a .w) (omega arith) d) (link-set (s .links) (a .u) (a .w) 1 y (omega arith) (omega arith))));
       size = omega arith;
     }
 
@@ -93,7 +93,7 @@ element-write-r-4 : tie.Need-element-write-r-4
 element-write-r-4 c = search needs
 
 returns-3 : tie.Need-returns-3
-returns-3 c = 
+returns-3 c =
     let a = c .before .before .before .before .before .before .before .before .args in
     let s = a .t1 in
     let y = links-length (c .before .before .before .before .before .before .before .before) in
@@ -102,9 +102,9 @@ returns-3 c =
     let z = c .zero-column .ensures in
     record {
       is =
-        rw (shared-at (s .flags) (a .w) ∙ ne-eqb _ 1 d, c .before .before .before .before .before .if2 .left)
-        (ap₂ given (ap not (c .before .before .one-into .ensures ∙ any-all (s .n) (λ (b : ℕ). must (grid (s .links) b (a .w))) (omega arith)))
-        (made-eq refl refl refl refl (link-set (c .zero-column .last .0) (a .u) (a .w) 1 (z .whole) (omega arith) (omega arith) ∙ ap (column (a .w) (from-u (a .u) 𝟙)) (z .says))));
+          rw (shared-at (s .flags) (a .w) ∙ ne-eqb _ 1 d, c .before .before .before .before .before .if2 .left)
+          (ap₂ given (ap not (c .before .before .one-into .ensures ∙ any-all (s .n) (λ (b : ℕ). must (grid (s .links) b (a .w))) (omega arith)))
+          (made-eq refl refl refl refl (link-set (c .zero-column .last .0) (a .u) (a .w) 1 (z .whole) (omega arith) (omega arith) ∙ ap (column (a .w) (from-u (a .u) 𝟙)) (z .says))));
       size = omega arith;
     }
 

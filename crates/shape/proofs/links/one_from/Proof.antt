@@ -35,7 +35,7 @@ other-must-requires : tie.Need-other-must-requires Inv-loop μ-loop
 other-must-requires c κs = search needs
 
 returns : tie.Need-returns Inv-loop μ-loop
-returns c = 
+returns c =
     let g = c .before .before .before .before .before .args in
     let s = c .before .before .before .before .loop in
     hit (g .n) (λ (b : ℕ). not (eqb b (g .but)) && must (grid (g .links .now) (g .u) b)) (s .b) (omega arith) (ap (λ (v : Truth). not (eqb (s .b) (g .but)) && must v) (sym (grid-at (g .links .now) (g .u) (s .b) (omega arith) (omega arith))) ∙ sym (c .before .other-must .ensures) ∙ c .if1 .taken)
@@ -47,13 +47,13 @@ loop-less : tie.Need-loop-less Inv-loop μ-loop
 loop-less c = search needs
 
 loop-again : tie.Need-loop-again Inv-loop μ-loop
-loop-again c = 
+loop-again c =
     let g = c .before .before .before .before .before .args in
     let s = c .before .before .before .before .loop in
     (omega arith, any-more (λ (b : ℕ). not (eqb b (g .but)) && must (grid (g .links .now) (g .u) b)) (s .b) (s .inv .1) (ap (λ (v : Truth). not (eqb (s .b) (g .but)) && must v) (sym (grid-at (g .links .now) (g .u) (s .b) (omega arith) (omega arith))) ∙ sym (c .before .other-must .ensures) ∙ c .if1 .left))
 
 returns-2 : tie.Need-returns-2 Inv-loop μ-loop
-returns-2 c = 
+returns-2 c =
     let g = c .before .before .args in
     let s = c .before .loop in
     no-hit (g .n) (λ (b : ℕ). not (eqb b (g .but)) && must (grid (g .links .now) (g .u) b)) (s .b) (omega arith) (s .inv .1)

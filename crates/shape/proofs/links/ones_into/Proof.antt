@@ -46,14 +46,16 @@ loop-less : tie.Need-loop-less Inv-loop μ-loop
 loop-less c = search needs
 
 loop-again : tie.Need-loop-again Inv-loop μ-loop
-loop-again c = 
+loop-again c =
     let g = c .before .before .before .before .before .args in
-    let s = c .before .before .before .before .loop in
-    (omega arith, count-next (s .a) (λ (a : ℕ). must (grid (g .links .now) a (g .t))) (s .ones) (c .number .result) (s .inv .1)
-    (c .number .ensures ∙ ap (λ (b : Bool). cond b 1 0) (c .before .must .ensures ∙ ap must (grid-at (g .links .now) (s .a) (g .t) (omega arith) (omega arith)))))
+    let s = c .before .before .before .before .loop in (
+      omega arith,
+      count-next (s .a) (λ (a : ℕ). must (grid (g .links .now) a (g .t))) (s .ones) (c .number .result) (s .inv .1)
+          (c .number .ensures ∙ ap (λ (b : Bool). cond b 1 0) (c .before .must .ensures ∙ ap must (grid-at (g .links .now) (s .a) (g .t) (omega arith) (omega arith)))),
+    )
 
 returns : tie.Need-returns Inv-loop μ-loop
-returns c = 
+returns c =
     let g = c .before .before .args in
     let s = c .before .loop in
     counted (g .n) (λ (a : ℕ). must (grid (g .links .now) a (g .t))) (s .a) (s .ones) (omega arith) (s .inv .1)

@@ -40,15 +40,16 @@ loop-less : tie.Need-loop-less Inv-loop μ-loop
 loop-less c = search needs
 
 loop-again : tie.Need-loop-again Inv-loop μ-loop
-loop-again c = 
+loop-again c =
     let g = c .before .before .before .before .args in
     let s = c .before .before .before .loop in
-    let l = grid (g .links .now) in
-    (omega arith,
-    down-next (g .t) (column (g .t) (sure-but (g .u)) l) l (s .links) (s .a) (c .sure-value .result) (omega arith) (omega arith) (column-else (g .t) (sure-but (g .u)) l) (c .sure-value .ensures ∙ ap ((sure-but (g .u)) (s .a)) (down-read (g .t) (column (g .t) (sure-but (g .u)) l) l (s .links) (s .a) (g .t) (omega arith) (omega arith) (s .inv .1)) ∙ sym (column-here (g .t) (sure-but (g .u)) l (s .a))) (s .inv .1))
+    let l = grid (g .links .now) in (
+      omega arith,
+      down-next (g .t) (column (g .t) (sure-but (g .u)) l) l (s .links) (s .a) (c .sure-value .result) (omega arith) (omega arith) (column-else (g .t) (sure-but (g .u)) l) (c .sure-value .ensures ∙ ap ((sure-but (g .u)) (s .a)) (down-read (g .t) (column (g .t) (sure-but (g .u)) l) l (s .links) (s .a) (g .t) (omega arith) (omega arith) (s .inv .1)) ∙ sym (column-here (g .t) (sure-but (g .u)) l (s .a))) (s .inv .1),
+    )
 
 returns : tie.Need-returns Inv-loop μ-loop
-returns c = 
+returns c =
     let g = c .before .before .args in
     let s = c .before .loop in
     let l = grid (g .links .now) in

@@ -33,15 +33,16 @@ loop-less : tie.Need-loop-less Inv-loop μ-loop
 loop-less c = search needs
 
 loop-again : tie.Need-loop-again Inv-loop μ-loop
-loop-again c = 
+loop-again c =
     let g = c .before .before .args in
     let s = c .before .loop in
-    let l = grid (g .links .now) in
-    (omega arith,
-    down-next (g .t) (column (g .t) all-zero l) l (s .links) (s .a) 0 (omega arith) (omega arith) (column-else (g .t) all-zero l) (sym (column-here (g .t) all-zero l (s .a))) (s .inv .1))
+    let l = grid (g .links .now) in (
+      omega arith,
+      down-next (g .t) (column (g .t) all-zero l) l (s .links) (s .a) 0 (omega arith) (omega arith) (column-else (g .t) all-zero l) (sym (column-here (g .t) all-zero l (s .a))) (s .inv .1),
+    )
 
 returns : tie.Need-returns Inv-loop μ-loop
-returns c = 
+returns c =
     let g = c .before .before .args in
     let s = c .before .loop in
     let l = grid (g .links .now) in

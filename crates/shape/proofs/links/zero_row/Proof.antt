@@ -34,15 +34,16 @@ loop-less : tie.Need-loop-less Inv-loop μ-loop
 loop-less c = search needs
 
 loop-again : tie.Need-loop-again Inv-loop μ-loop
-loop-again c = 
+loop-again c =
     let g = c .before .before .args in
     let s = c .before .loop in
-    let l = grid (g .links .now) in
-    (omega arith,
-    along-next (g .u) (row (g .u) (λ b. 𝟘) l) l (s .links) (s .b) 0 (omega arith) (omega arith) (row-else (g .u) (λ b. 𝟘) l) (sym (row-here (g .u) (λ b. 𝟘) l (s .b))) (s .inv .1))
+    let l = grid (g .links .now) in (
+      omega arith,
+      along-next (g .u) (row (g .u) (λ b. 𝟘) l) l (s .links) (s .b) 0 (omega arith) (omega arith) (row-else (g .u) (λ b. 𝟘) l) (sym (row-here (g .u) (λ b. 𝟘) l (s .b))) (s .inv .1),
+    )
 
 returns : tie.Need-returns Inv-loop μ-loop
-returns c = 
+returns c =
     let g = c .before .before .args in
     let s = c .before .loop in
     let l = grid (g .links .now) in

@@ -34,7 +34,7 @@ add-r : tie.Need-add-r
 add-r c = search needs
 
 returns : tie.Need-returns
-returns c = 
+returns c =
     let a = c .before .before .before .before .args in
     let n = a .s .n in
     let y : length (a .s .flags) ≡ edge = search needs in

@@ -19,14 +19,14 @@ zero-row-requires : tie.Need-zero-row-requires
 zero-row-requires c κs = let a = c .before .before .before .before .args in let z : length (a .t1 .links) ≡ cells = search needs in (z, omega arith)
 
 returns : tie.Need-returns
-returns c = 
+returns c =
     let a = c .before .before .before .before .before .args in
     let s = a .t1 in
     record {
       is =
-        ap₂ given
-        (ap not (c .before .before .one-from .ensures ∙ any-all (s .n) (λ (b : ℕ). must (grid (s .links) (a .u) b)) (omega arith)))
-        (ap (λ (g : ℕ → ℕ → Truth). record { shape = made (s .n) (mask (s .masks)) (summary (s .flags)) (shared (s .flags)) g; target = null }) (c .zero-row .ensures .says));
+          ap₂ given
+          (ap not (c .before .before .one-from .ensures ∙ any-all (s .n) (λ (b : ℕ). must (grid (s .links) (a .u) b)) (omega arith)))
+          (ap (λ (g : ℕ → ℕ → Truth). record { shape = made (s .n) (mask (s .masks)) (summary (s .flags)) (shared (s .flags)) g; target = null }) (c .zero-row .ensures .says));
       size = omega arith;
       low = omega arith;
     }

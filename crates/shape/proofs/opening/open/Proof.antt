@@ -20,7 +20,7 @@ no-target-requires : tie.Need-no-target-requires
 no-target-requires c κs = search needs
 
 returns : tie.Need-returns
-returns c = 
+returns c =
     let a = c .before .before .args in
     let o = c .no-target .ensures in
     record { is = o .is ∙ rw (eq-eqb (a .j) 0 (c .before .if1 .taken)); size = o .size; low = o .low }
@@ -41,13 +41,13 @@ settle-requires : tie.Need-settle-requires
 settle-requires c κs = omega (arith, ap (λ (W : M.Shape). W .size) (c .whole .ensures))
 
 returns-2 : tie.Need-returns-2
-returns-2 c = 
+returns-2 c =
     let a = c .before .before .before .before .before .before .before .before .args in
     let o = c .settle .ensures in
     record {
       is =
-        o .is ∙ ap (λ (W : M.Shape). S.settled W (a .u) ((a .j + 1) / 2 - 1)) (c .before .whole .ensures)
-        ∙ rw (ne-eqb (a .j) 0 (c .before .before .before .before .before .before .before .if1 .left), ne-eqb (a .j % 2) 0 (let z = c .before .before .if3 .taken in λ e. omega arith), sym (c .before .before .before .before .possible .ensures) ∙ c .before .before .before .if2 .taken);
+          o .is ∙ ap (λ (W : M.Shape). S.settled W (a .u) ((a .j + 1) / 2 - 1)) (c .before .whole .ensures)
+          ∙ rw (ne-eqb (a .j) 0 (c .before .before .before .before .before .before .before .if1 .left), ne-eqb (a .j % 2) 0 (let z = c .before .before .if3 .taken in λ e. omega arith), sym (c .before .before .before .before .possible .ensures) ∙ c .before .before .before .if2 .taken);
       size = o .size;
       low = o .low;
     }
@@ -77,15 +77,19 @@ settle-requires-2 : tie.Need-settle-requires-2
 settle-requires-2 c κs = omega (arith, ap (λ (W : M.Shape). W .size) (c .whole2 .ensures), ap (λ (W : M.Shape). W .size) (c .before .divided .ensures))
 
 returns-3 : tie.Need-returns-3
-returns-3 c = 
+returns-3 c =
     let a = c .before .before .before .before .before .before .before .before .before .before .before .before .before .args in
     let h = c .before .before .before .before .before .before .before .before .before .before .before .before .before .pre in
     let o = c .settle2 .ensures in
     record {
       is =
-        o .is ∙ ap (λ (W : M.Shape). S.settled W (a .u) ((a .j + 1) / 2 - 1)) (c .before .whole2 .ensures ∙ ap (λ (W : M.Shape). S.whole W (a .u) ((a .j + 1) / 2 - 1)) (c .before .before .divided .ensures))
-        ∙ rw (ne-eqb (a .j) 0 (c .before .before .before .before .before .before .before .before .before .before .before .before .if1 .left), eq-eqb (a .j % 2) 0 (let z = c .before .before .before .before .before .before .before .if3 .left in omega arith), sym (c .before .before .before .before .before .before .before .before .before .possible .ensures) ∙ c .before .before .before .before .before .before .before .before .if2 .taken,
-        sym (ap₂ (λ (b : Bool) (v : Truth). b && half v) (sym (summary-at (a .t1 .flags) ((a .j + 1) / 2 - 1))) (grid-at (a .t1 .links) (a .u) ((a .j + 1) / 2 - 1) (omega arith) (omega arith))) ∙ sym (c .before .before .before .before .divides .ensures) ∙ c .before .before .before .if4 .taken);
+          o .is ∙ ap (λ (W : M.Shape). S.settled W (a .u) ((a .j + 1) / 2 - 1)) (c .before .whole2 .ensures ∙ ap (λ (W : M.Shape). S.whole W (a .u) ((a .j + 1) / 2 - 1)) (c .before .before .divided .ensures))
+          ∙ rw (
+            ne-eqb (a .j) 0 (c .before .before .before .before .before .before .before .before .before .before .before .before .if1 .left),
+            eq-eqb (a .j % 2) 0 (let z = c .before .before .before .before .before .before .before .if3 .left in omega arith),
+            sym (c .before .before .before .before .before .before .before .before .before .possible .ensures) ∙ c .before .before .before .before .before .before .before .before .if2 .taken,
+            sym (ap₂ (λ (b : Bool) (v : Truth). b && half v) (sym (summary-at (a .t1 .flags) ((a .j + 1) / 2 - 1))) (grid-at (a .t1 .links) (a .u) ((a .j + 1) / 2 - 1) (omega arith) (omega arith))) ∙ sym (c .before .before .before .before .divides .ensures) ∙ c .before .before .before .if4 .taken,
+          );
       size = o .size;
       low = o .low;
     }
@@ -94,14 +98,18 @@ not-opened-requires : tie.Need-not-opened-requires
 not-opened-requires c κs = omega arith
 
 returns-4 : tie.Need-returns-4
-returns-4 c = 
+returns-4 c =
     let a = c .before .before .before .before .before .before .before .before .before .before .before .args in
     let o = c .not-opened .ensures in
     record {
       is =
-        o .is
-        ∙ rw (ne-eqb (a .j) 0 (c .before .before .before .before .before .before .before .before .before .before .if1 .left), eq-eqb (a .j % 2) 0 (let z = c .before .before .before .before .before .if3 .left in omega arith), sym (c .before .before .before .before .before .before .before .possible .ensures) ∙ c .before .before .before .before .before .before .if2 .taken,
-        sym (ap₂ (λ (b : Bool) (v : Truth). b && half v) (sym (summary-at (a .t1 .flags) ((a .j + 1) / 2 - 1))) (grid-at (a .t1 .links) (a .u) ((a .j + 1) / 2 - 1) (omega arith) (omega arith))) ∙ sym (c .before .before .divides .ensures) ∙ c .before .if4 .left);
+          o .is
+          ∙ rw (
+            ne-eqb (a .j) 0 (c .before .before .before .before .before .before .before .before .before .before .if1 .left),
+            eq-eqb (a .j % 2) 0 (let z = c .before .before .before .before .before .if3 .left in omega arith),
+            sym (c .before .before .before .before .before .before .before .possible .ensures) ∙ c .before .before .before .before .before .before .if2 .taken,
+            sym (ap₂ (λ (b : Bool) (v : Truth). b && half v) (sym (summary-at (a .t1 .flags) ((a .j + 1) / 2 - 1))) (grid-at (a .t1 .links) (a .u) ((a .j + 1) / 2 - 1) (omega arith) (omega arith))) ∙ sym (c .before .before .divides .ensures) ∙ c .before .if4 .left,
+          );
       size = o .size;
       low = o .low;
     }
@@ -110,7 +118,7 @@ not-opened-requires-2 : tie.Need-not-opened-requires-2
 not-opened-requires-2 c κs = omega arith
 
 returns-5 : tie.Need-returns-5
-returns-5 c = 
+returns-5 c =
     let a = c .before .before .before .before .before .before .args in
     let o = c .not-opened2 .ensures in
     let p : S.possible (meaning (a .t1)) (a .u) ((a .j + 1) / 2 - 1) ≡ false = sym (c .before .before .possible .ensures) ∙ c .before .if2 .left in

@@ -50,14 +50,14 @@ possible-requires-2 : tie.Need-possible-requires-2
 possible-requires-2 c κs = omega arith
 
 returns-3 : tie.Need-returns-3
-returns-3 c = 
+returns-3 c =
     let a = c .before .before .before .before .before .before .before .args in
     let h = c .before .before .before .before .before .before .before .pre in
     let d : S.divides (made (a .n) (λ i. 0) (summary (a .flags .now)) (shared (a .flags .now)) (grid (a .links .now))) (a .u) ((a .j + 1) / 2 - 1) ≡ true = ap₂ (λ (b : Bool) (v : Truth). b && half v) (summary-at (a .flags .now) ((a .j + 1) / 2 - 1)) (sym (grid-at (a .links .now) (a .u) ((a .j + 1) / 2 - 1) (omega arith) (omega arith))) ∙ sym (c .before .before .divides .ensures) ∙ c .before .if3 .taken in
     c .possible2 .ensures ∙ ap (λ (b : Bool). b && S.possible (made (a .n) (λ i. 0) (summary (a .flags .now)) (shared (a .flags .now)) (grid (a .links .now))) (a .u) ((a .j + 1) / 2 - 1)) (sym d) ∙ rw (ne-eqb (a .j) 0 (c .before .before .before .before .before .before .if1 .left), ne-eqb (a .j % 2) 1 (c .before .before .before .before .before .if2 .left))
 
 returns-4 : tie.Need-returns-4
-returns-4 c = 
+returns-4 c =
     let a = c .before .before .before .before .before .before .args in
     let h = c .before .before .before .before .before .before .pre in
     let d : S.divides (made (a .n) (λ i. 0) (summary (a .flags .now)) (shared (a .flags .now)) (grid (a .links .now))) (a .u) ((a .j + 1) / 2 - 1) ≡ false = ap₂ (λ (b : Bool) (v : Truth). b && half v) (summary-at (a .flags .now) ((a .j + 1) / 2 - 1)) (sym (grid-at (a .links .now) (a .u) ((a .j + 1) / 2 - 1) (omega arith) (omega arith))) ∙ sym (c .before .divides .ensures) ∙ c .if3 .left in

@@ -27,13 +27,13 @@ one-from-requires : tie.Need-one-from-requires
 one-from-requires c κs = search needs
 
 returns : tie.Need-returns
-returns c = 
+returns c =
     let a = c .before .before .before .before .args in
     ap not (c .one-from .ensures)
     ∙ sym (ap (λ (b : Bool). b && not (any (a .n) (λ (b : ℕ). not (eqb b (a .v)) && must (grid (a .links .now) (a .u) b)))) (ap may (sym (grid-at (a .links .now) (a .u) (a .v) (omega arith) (omega arith))) ∙ sym (c .before .before .may .ensures) ∙ c .before .if1 .taken))
 
 returns-2 : tie.Need-returns-2
-returns-2 c = 
+returns-2 c =
     let a = c .before .before .before .args in
     sym (ap (λ (b : Bool). b && not (any (a .n) (λ (b : ℕ). not (eqb b (a .v)) && must (grid (a .links .now) (a .u) b)))) (ap may (sym (grid-at (a .links .now) (a .u) (a .v) (omega arith) (omega arith))) ∙ sym (c .before .may .ensures) ∙ c .if1 .left))
 

@@ -17,7 +17,7 @@ some-into-requires : tie.Need-some-into-requires
 some-into-requires c κs = search needs
 
 returns : tie.Need-returns
-returns c = 
+returns c =
     let a = c .before .before .before .before .before .args in
     record {
       is = settled-shared (meaning (a .t1)) (a .u) (a .t) (shared-at (a .t1 .flags) (a .t) ∙ eq-eqb _ _ (c .before .before .before .if1 .taken)) (c .some-into .ensures);
@@ -32,7 +32,7 @@ sure-column-requires : tie.Need-sure-column-requires
 sure-column-requires c κs = let a = c .before .before .before .before .before .before .args in let z : length (a .t1 .links) ≡ cells = search needs in (z, omega arith)
 
 returns-2 : tie.Need-returns-2
-returns-2 c = 
+returns-2 c =
     let a = c .before .before .before .before .before .before .before .args in
     record {
       is = settled-unshared (meaning (a .t1)) (a .u) (a .t) (grid (c .sure-column .last .0)) (shared-at (a .t1 .flags) (a .t) ∙ ne-eqb _ _ (c .before .before .before .before .before .if1 .left)) (c .before .before .one-into .ensures) (c .sure-column .ensures .says);

@@ -31,7 +31,7 @@ element-write-r-2 : tie.Need-element-write-r-2
 element-write-r-2 c = search needs
 
 returns : tie.Need-returns
-returns c = 
+returns c =
     let a = c .before .before .before .args in
     let f = getD (a .s .flags) (a .v) 0 in
     let y : length (a .s .flags) ≡ edge = search needs in

@@ -52,7 +52,7 @@ loop2-less : tie.Need-loop2-less Inv-loop2 μ-loop2 Inv-loop μ-loop
 loop2-less c = search needs
 
 loop2-again : tie.Need-loop2-again Inv-loop2 μ-loop2 Inv-loop μ-loop
-loop2-again c = 
+loop2-again c =
     let g = c .before .before .before .before .before .args in
     let t = c .before .before .before .before .loop in
     let s = c .before .before .loop2 in
@@ -69,7 +69,7 @@ loop-less : tie.Need-loop-less Inv-loop2 μ-loop2 Inv-loop μ-loop
 loop-less c = search needs
 
 loop-again : tie.Need-loop-again Inv-loop2 μ-loop2 Inv-loop μ-loop
-loop-again c = 
+loop-again c =
     let g = c .before .before .before .before .args in
     let t = c .before .before .before .loop in
     let s = c .before .loop2 in
@@ -78,7 +78,7 @@ loop-again c =
     (omega arith, omega arith, upto-row (λ (x y : ℕ). truth (byte (g .part .now) (g .place + g .k * x + y))) (g .k) (s .r) (t .a) (s .b) (omega arith) (s .inv .1))
 
 returns : tie.Need-returns Inv-loop2 μ-loop2 Inv-loop μ-loop
-returns c = 
+returns c =
     let g = c .before .before .args in
     let s = c .before .loop in
     upto-done (λ (x y : ℕ). truth (byte (g .part .now) (g .place + g .k * x + y))) (g .k) (s .r) (s .a) (omega arith) (s .inv .2)

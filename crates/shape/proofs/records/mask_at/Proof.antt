@@ -36,7 +36,7 @@ add-result : tie.Need-add-result
 add-result c = let w = c .wide3 .ensures in let v = c .before .before .wide2 .ensures in omega arith
 
 returns-2 : tie.Need-returns-2
-returns-2 c = 
+returns-2 c =
     let a = c .before .before .before .before .before .before .args in
     let d = c .before .before .before .before .if1 .left in
     let e : a .width ≡ 2 = omega arith in

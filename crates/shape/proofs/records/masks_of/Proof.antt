@@ -43,7 +43,7 @@ loop-less : tie.Need-loop-less Inv-loop μ-loop
 loop-less c = search needs
 
 loop-again : tie.Need-loop-again Inv-loop μ-loop
-loop-again c = 
+loop-again c =
     let g = c .before .before .before .before .args in
     let s = c .before .before .loop in
     let h = c .before .before .before .before .pre in
@@ -51,7 +51,7 @@ loop-again c =
     (omega arith, omega arith, lined-next (λ (x : ℕ). number (g .width) (g .part .now) (2 + (g .width + 1) * x)) (λ x. 0) (s .r) (s .a) _ (omega arith) (c .mask-at .ensures ∙ ap (number (g .width) (g .part .now)) (s .inv .1)) (s .inv .2))
 
 returns : tie.Need-returns Inv-loop μ-loop
-returns c = 
+returns c =
     let g = c .before .before .before .args in
     let s = c .before .loop in
     let e : s .a ≡ g .k = omega arith in

@@ -18,7 +18,7 @@ count-requires : tie.Need-count-requires
 count-requires c κs = search needs
 
 masks-of-requires : tie.Need-masks-of-requires
-masks-of-requires c κs = 
+masks-of-requires c κs =
     let g = c .before .before .before .args in
     let h = c .before .before .before .pre in
     let k = size-at (g .part .now) 0 in
@@ -30,7 +30,7 @@ masks-of-requires c κs =
     rw e (omega arith, omega arith, omega arith, omega arith)
 
 flags-of-requires : tie.Need-flags-of-requires
-flags-of-requires c κs = 
+flags-of-requires c κs =
     let g = c .before .before .before .before .args in
     let h = c .before .before .before .before .pre in
     let k = size-at (g .part .now) 0 in
@@ -45,7 +45,7 @@ add-links-of : tie.Need-add-links-of
 add-links-of c = search needs
 
 mul-links-of : tie.Need-mul-links-of
-mul-links-of c = 
+mul-links-of c =
     let g = c .before .before .before .before .before .args in
     let h = c .before .before .before .before .before .pre in
     let k = size-at (g .part .now) 0 in
@@ -57,7 +57,7 @@ mul-links-of c =
     rw e (omega arith)
 
 add-links-of-2 : tie.Need-add-links-of-2
-add-links-of-2 c = 
+add-links-of-2 c =
     let g = c .before .before .before .before .before .args in
     let h = c .before .before .before .before .before .pre in
     let k = size-at (g .part .now) 0 in
@@ -69,7 +69,7 @@ add-links-of-2 c =
     rw e (omega arith)
 
 links-of-requires : tie.Need-links-of-requires
-links-of-requires c κs = 
+links-of-requires c κs =
     let g = c .before .before .before .before .before .args in
     let h = c .before .before .before .before .before .pre in
     let k = size-at (g .part .now) 0 in
@@ -81,7 +81,7 @@ links-of-requires c κs =
     rw e (omega arith, omega arith)
 
 returns : tie.Need-returns
-returns c = 
+returns c =
     let g = c .before .before .before .before .before .before .args in
     let p = g .part .now in
     let w = g .width in

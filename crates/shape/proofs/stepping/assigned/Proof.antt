@@ -25,7 +25,7 @@ moved-requires-2 : tie.Need-moved-requires-2
 moved-requires-2 c κs = let a = c .before .before .args in (omega arith, index-low (a .s .n) (λ (i : ℕ). bit (a .y) (mask (a .s .masks) i)) (c .holder .result) (omega arith) (c .holder .ensures))
 
 returns-2 : tie.Need-returns-2
-returns-2 c = 
+returns-2 c =
     let a = c .before .before .before .args in
     c .moved2 .ensures ∙ ap (S.moved (meaning (a .s)) (a .x)) (c .before .holder .ensures)
     ∙ ap (λ (b : Bool). S.moved (meaning (a .s)) (a .x) (cond b null (M.holder (meaning (a .s)) (a .y)))) (sym (ne-eqb (a .op) 2 (c .before .before .if1 .left)))

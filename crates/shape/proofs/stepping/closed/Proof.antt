@@ -39,7 +39,7 @@ enum-told : tie.Need-enum-told
 enum-told c = search needs
 
 returns : tie.Need-returns
-returns c = 
+returns c =
     let a = c .before .before .before .before .args in
     let e : Null ≡ c .before .before .first-with .result = cc in
     ap (λ (r : Ref). shut r (λ u. not (opens (made (a .n) (mask (a .masks .now)) (summary (a .flags .now)) (shared (a .flags .now)) (grid (a .links .now))) u (cond (eqb (a .op) 5) (a .j) (cond (eqb (a .op) 6) (a .j / 2) (a .j / 2 / 2)))))) (ap ref e ∙ found-by (c .before .before))
@@ -48,14 +48,14 @@ opening-place-requires : tie.Need-opening-place-requires
 opening-place-requires c κs = search needs
 
 opens-requires : tie.Need-opens-requires
-opens-requires c κs = 
+opens-requires c κs =
     let a = c .before .before .before .before .before .before .args in
     let z = opening-low (a .op) (a .n) (a .j) (c .before .before .before .before .before .before .pre .3) (c .before .before .before .before .before .before .pre .4) (c .before .before .before .before .before .before .pre .5) in
     let e = c .opening-place .ensures in
     (omega arith, low (c .before), rw e z)
 
 returns-2 : tie.Need-returns-2
-returns-2 c = 
+returns-2 c =
     let a = c .before .before .before .before .before .before .before .args in
     let u = c .before .before .before .u .given .0 .0 in
     let e : At u ≡ c .before .before .before .before .before .first-with .result = cc in

@@ -34,7 +34,7 @@ nothing-requires : tie.Need-nothing-requires
 nothing-requires c κs = search needs
 
 returns : tie.Need-returns
-returns c = 
+returns c =
     let e : Null ≡ c .before .before .before .holder .result = cc in
     let r = c .nothing .ensures in
     record { is = r .is ∙ rw (sym (ap ref e ∙ c .before .before .before .holder .ensures)); size = r .size }

@@ -11,7 +11,7 @@ fold-requires : tie.Need-fold-requires
 fold-requires c κs = search needs
 
 returns : tie.Need-returns
-returns c = 
+returns c =
     let a = c .before .before .before .args in
     let f = c .fold .ensures in
     record {

@@ -38,7 +38,7 @@ nothing-requires : tie.Need-nothing-requires
 nothing-requires c κs = search needs
 
 returns : tie.Need-returns
-returns c = 
+returns c =
     let e : Null ≡ c .before .before .before .holder .result = cc in
     let r = c .nothing .ensures in
     record { is = r .is ∙ rw (sym (ap ref e ∙ c .before .before .before .holder .ensures)); size = r .size }
@@ -50,15 +50,15 @@ moved-requires : tie.Need-moved-requires
 moved-requires c κs = (omega arith, c .before .«open» .ensures .low)
 
 returns-2 : tie.Need-returns-2
-returns-2 c = 
+returns-2 c =
     let a = c .before .before .before .before .before .before .before .args in
     let o = c .before .before .«open» .ensures in
     let q = c .before .before .«open» .result in
     let f : S.Opened → M.Shape = λ o. S.moved (o .shape) (a .x) (o .target) in
     record {
       is =
-        ap (given (q .given)) (c .moved .ensures) ∙ map-given f (q .given) (record { shape = meaning (q .shape); target = ref (q .target) })
-        ∙ ap (map f) (o .is) ∙ rw (sym (found (c .before .before .before)));
+          ap (given (q .given)) (c .moved .ensures) ∙ map-given f (q .given) (record { shape = meaning (q .shape); target = ref (q .target) })
+          ∙ ap (map f) (o .is) ∙ rw (sym (found (c .before .before .before)));
       size = omega (arith, ap (λ (W : M.Shape). W .size) (c .moved .ensures), o .size);
     }
 

@@ -43,7 +43,7 @@ closed-requires : tie.Need-closed-requires
 closed-requires c κs = let h = c .before .before .before .before .before .before .before .before .pre in let d = c .before .before .before .before .before .before .before .match .rest .1 in let e = c .before .before .before .before .if3 .taken in let f = c .before .before .before .before .before .if2 .left in (h .0, h .1, h .2, omega arith, omega arith, h .3)
 
 returns : tie.Need-returns
-returns c = 
+returns c =
     let g = c .before .before .before .before .before .before .before .before .before .before .args in
     let h = c .before .before .before .before .before .before .before .before .before .before .pre in
     let d = c .before .before .before .before .before .before .before .before .before .match .rest .1 in
@@ -51,9 +51,9 @@ returns c =
     let f = c .before .before .before .before .before .before .before .if2 .left in
     record {
       is =
-        ap (λ (l : List (ℕ × M.Shape)). map trimmed-result (map folded-result l))
-        (ap (at-point (g .s1)) (sym (closed-through (g .op) (g .x) (g .y) (meaning (g .t6)) (g .j) (sym (c .before .closed .ensures) ∙ c .if4 .taken)))
-        ∙ sym (through-numbered (g .x) (g .y) (g .s1) (g .s2) (meaning (g .t6)) (g .j) (g .op) (omega arith) (omega arith)));
+          ap (λ (l : List (ℕ × M.Shape)). map trimmed-result (map folded-result l))
+          (ap (at-point (g .s1)) (sym (closed-through (g .op) (g .x) (g .y) (meaning (g .t6)) (g .j) (sym (c .before .closed .ensures) ∙ c .if4 .taken)))
+          ∙ sym (through-numbered (g .x) (g .y) (g .s1) (g .s2) (meaning (g .t6)) (g .j) (g .op) (omega arith) (omega arith)));
       size = omega arith;
     }
 
@@ -73,7 +73,7 @@ finished-requires-5 : tie.Need-finished-requires-5
 finished-requires-5 c κs = c .sole4 .ensures .size
 
 returns-2 : tie.Need-returns-2
-returns-2 c = 
+returns-2 c =
     let g = c .before .before .before .before .before .before .before .before .before .args in
     let h = c .before .before .before .before .before .before .before .before .before .pre in
     let r = c .finished5 .ensures in
@@ -89,7 +89,7 @@ finished-requires-6 : tie.Need-finished-requires-6
 finished-requires-6 c κs = c .sole5 .ensures .size
 
 returns-3 : tie.Need-returns-3
-returns-3 c = 
+returns-3 c =
     let g = c .before .before .before .args in
     let h = c .before .before .before .pre in
     let r = c .finished .ensures in
@@ -99,7 +99,7 @@ returns-3 c =
     }
 
 returns-4 : tie.Need-returns-4
-returns-4 c = 
+returns-4 c =
     let g = c .before .before .before .before .args in
     let h = c .before .before .before .before .pre in
     let r = c .finished2 .ensures in
@@ -109,7 +109,7 @@ returns-4 c =
     }
 
 returns-5 : tie.Need-returns-5
-returns-5 c = 
+returns-5 c =
     let g = c .before .before .before .before .before .before .args in
     let h = c .before .before .before .before .before .before .pre in
     let r = c .finished3 .ensures in
@@ -119,7 +119,7 @@ returns-5 c =
     }
 
 returns-6 : tie.Need-returns-6
-returns-6 c = 
+returns-6 c =
     let g = c .before .before .before .before .before .before .before .before .before .before .before .before .args in
     let h = c .before .before .before .before .before .before .before .before .before .before .before .before .pre in
     let r = c .finished4 .ensures in
@@ -129,7 +129,7 @@ returns-6 c =
     }
 
 returns-7 : tie.Need-returns-7
-returns-7 c = 
+returns-7 c =
     let g = c .before .before .before .before .before .before .before .before .before .args in
     let h = c .before .before .before .before .before .before .before .before .before .pre in
     let r = c .finished6 .ensures in
@@ -139,13 +139,13 @@ returns-7 c =
     }
 
 returns-8 : tie.Need-returns-8
-returns-8 c = 
+returns-8 c =
     let g = c .before .before .args in
     let d = c .before .match .rest .0 in
     record { is = ap (λ (l : List (ℕ × M.Shape)). map trimmed-result (map folded-result l)) (stopped-slot (g .x) (g .y) (g .s1) (g .s2) (meaning (g .t6)) (g .j) (g .op) (λ h. omega arith)); size = omega arith }
 
 returns-9 : tie.Need-returns-9
-returns-9 c = 
+returns-9 c =
     let g = c .before .before .before .before .before .args in
     let d = c .before .before .before .before .match .rest .1 in
     record { is = ap (λ (l : List (ℕ × M.Shape)). map trimmed-result (map folded-result l)) (stopped-slot (g .x) (g .y) (g .s1) (g .s2) (meaning (g .t6)) (g .j) (g .op) (λ h. omega arith)); size = omega arith }

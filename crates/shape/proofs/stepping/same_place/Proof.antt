@@ -23,7 +23,7 @@ enum-told-4 : tie.Need-enum-told-4
 enum-told-4 c = search needs
 
 returns : tie.Need-returns
-returns c = 
+returns c =
     let a = c .before .before .before .before .before .before .args in
     let e : At (c .before .before .before .before .p .given .0 .0) ≡ a .p = cc in
     let f : At (c .before .q .given .0 .0) ≡ a .q = cc in

@@ -35,7 +35,7 @@ nothing-requires : tie.Need-nothing-requires
 nothing-requires c κs = search needs
 
 returns : tie.Need-returns
-returns c = 
+returns c =
     let e : Null ≡ c .before .before .before .holder .result = cc in
     let r = c .nothing .ensures in
     record { is = r .is ∙ rw (sym (ap ref e ∙ c .before .before .before .holder .ensures)); size = r .size }
@@ -44,12 +44,12 @@ holder-requires-2 : tie.Need-holder-requires-2
 holder-requires-2 c κs = search needs
 
 store-requires : tie.Need-store-requires
-store-requires c κs = 
+store-requires c κs =
     let g = c .before .before .before .before .before .args in
     (omega arith, low (c .before), index-low (g .s .n) (λ (i : ℕ). bit (g .y) (mask (g .s .masks) i)) (c .holder2 .result) (omega arith) (c .holder2 .ensures), omega arith)
 
 returns-2 : tie.Need-returns-2
-returns-2 c = 
+returns-2 c =
     let r = c .store .ensures in
     let g = c .before .before .before .before .before .before .args in
     record {

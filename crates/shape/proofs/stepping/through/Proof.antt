@@ -19,7 +19,7 @@ returns-2 : tie.Need-returns-2
 returns-2 c = let a = c .before .before .before .args in let r = c .cut-off .ensures in record { is = r .is ∙ rw (ne-eqb (a .op) 5 (c .before .before .if1 .left), eq-eqb (a .op) 6 (c .before .if2 .taken)); size = r .size }
 
 stored-requires : tie.Need-stored-requires
-stored-requires c κs = 
+stored-requires c κs =
     let a = c .before .before .args in
     let d = c .before .if1 .left in
     let f = c .if2 .left in

@@ -29,7 +29,7 @@ holds-requires : tie.Need-holds-requires Inv-loop μ-loop
 holds-requires c κs = search needs
 
 returns : tie.Need-returns Inv-loop μ-loop
-returns c = 
+returns c =
     let g = c .before .before .before .before .before .args in
     let s = c .before .before .before .before .loop in
     sym (first-hit (λ (a : ℕ). bit (g .x) (mask (g .masks .now) a)) (g .n) (s .a) (omega arith) (s .inv .1) (sym (ap (bit (g .x)) (mask-at (g .masks .now) (s .a))) ∙ sym (c .before .holds .ensures) ∙ c .if1 .taken))
@@ -41,13 +41,13 @@ loop-less : tie.Need-loop-less Inv-loop μ-loop
 loop-less c = search needs
 
 loop-again : tie.Need-loop-again Inv-loop μ-loop
-loop-again c = 
+loop-again c =
     let g = c .before .before .before .before .before .args in
     let s = c .before .before .before .before .loop in
     (omega arith, any-more (λ (a : ℕ). bit (g .x) (mask (g .masks .now) a)) (s .a) (s .inv .1) (sym (ap (bit (g .x)) (mask-at (g .masks .now) (s .a))) ∙ sym (c .before .holds .ensures) ∙ c .if1 .left))
 
 returns-2 : tie.Need-returns-2 Inv-loop μ-loop
-returns-2 c = 
+returns-2 c =
     let g = c .before .before .args in
     let s = c .before .loop in
     let e : s .a ≡ g .n = omega arith in

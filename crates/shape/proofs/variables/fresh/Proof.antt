@@ -39,7 +39,7 @@ add-r : tie.Need-add-r
 add-r c = search needs
 
 returns : tie.Need-returns
-returns c = 
+returns c =
     let a = c .before .before .before .before .before .before .before .args in
     let n = a .s .n in
     let m = c .before .before .before .before .before .move-bit in

@@ -43,16 +43,17 @@ loop-less : tie.Need-loop-less Inv-loop μ-loop
 loop-less c = search needs
 
 loop-again : tie.Need-loop-again Inv-loop μ-loop
-loop-again c = 
+loop-again c =
     let g = c .before .before .before .before .before .args in
-    let s = c .before .before .before .before .loop in
-    (omega arith,
-    lined-next (λ (a : ℕ). put (g .x) (is (ref (g .p)) a) (mask (g .masks .now) a)) (mask (g .masks .now)) (s .masks) (s .a) (c .with-bit .result) (omega arith)
-    (c .with-bit .ensures ∙ ap₂ (put (g .x)) (c .before .at-place .ensures) (lined-read (λ (a : ℕ). put (g .x) (is (ref (g .p)) a) (mask (g .masks .now) a)) (mask (g .masks .now)) (s .masks) (s .a) (s .inv .1)))
-    (s .inv .1))
+    let s = c .before .before .before .before .loop in (
+      omega arith,
+      lined-next (λ (a : ℕ). put (g .x) (is (ref (g .p)) a) (mask (g .masks .now) a)) (mask (g .masks .now)) (s .masks) (s .a) (c .with-bit .result) (omega arith)
+          (c .with-bit .ensures ∙ ap₂ (put (g .x)) (c .before .at-place .ensures) (lined-read (λ (a : ℕ). put (g .x) (is (ref (g .p)) a) (mask (g .masks .now) a)) (mask (g .masks .now)) (s .masks) (s .a) (s .inv .1)))
+          (s .inv .1),
+    )
 
 returns : tie.Need-returns Inv-loop μ-loop
-returns c = 
+returns c =
     let g = c .before .before .args in
     let s = c .before .loop in
     record {
