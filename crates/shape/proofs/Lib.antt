@@ -13,3 +13,4 @@ pub mod Merging
 pub mod Folded
 pub mod ByKeys
 pub mod Recorded
+pub mod Trims

@@ -65,9 +65,9 @@ pub fn copy_links(links: &mut [u8; CELLS], n: usize, v: usize)
         let w = links[v * EDGE + b];
         links[n * EDGE + b] = w;
     }
-    for a in 0..EDGE {
-        let w = links[a * EDGE + v];
-        links[a * EDGE + n] = w;
+    for c in 0..EDGE {
+        let w = links[c * EDGE + v];
+        links[c * EDGE + n] = w;
     }
 }
 

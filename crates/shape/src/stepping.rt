@@ -76,7 +76,8 @@ fn load(x: u8, y: u8, s: Shape, j: usize) -> Raw
     requires { ⌜ (x < 16) × (y < 16) × (s .n < edge) × (j ≤ 2 * s .n) ⌝ }
     ensures { λ r. ⌜ Gives (S.at-holder (M.holder (meaning s) y) (λ u. load-slot (meaning s) u x j)) r ⌝ }
 {
-    let Place::At(u) = variables::holder(s, y) else {
+    let n = s.n;
+    let Place::At(u) = variables::first_with(&s.masks, n, y) else {
         return nothing(s);
     };
     let o = opening::open(s, u, j);
@@ -94,7 +95,8 @@ fn cut_off(x: u8, s: Shape, j: usize) -> Raw
     requires { ⌜ (x < 16) × (s .n < edge) × (j / 2 ≤ 2 * s .n) ⌝ }
     ensures { λ r. ⌜ Gives (S.at-holder (M.holder (meaning s) x) (λ u. clear-slot (meaning s) u j)) r ⌝ }
 {
-    let Place::At(u) = variables::holder(s, x) else {
+    let n = s.n;
+    let Place::At(u) = variables::first_with(&s.masks, n, x) else {
         return nothing(s);
     };
     clearing::clear(s, u, j)
@@ -105,10 +107,12 @@ fn stored(x: u8, y: u8, s: Shape, j: usize) -> Raw
     requires { ⌜ (x < 16) × (y < 16) × (s .n < edge) × (j / 2 / 2 ≤ 2 * s .n) ⌝ }
     ensures { λ r. ⌜ Gives (S.at-holder (M.holder (meaning s) x) (λ u. store-slot (meaning s) u (M.holder (meaning s) y) j)) r ⌝ }
 {
-    let Place::At(u) = variables::holder(s, x) else {
+    let n = s.n;
+    let Place::At(u) = variables::first_with(&s.masks, n, x) else {
         return nothing(s);
     };
-    linking::store(s, u, variables::holder(s, y), j)
+    let w = variables::first_with(&s.masks, n, y);
+    linking::store(s, u, w, j)
 }
 
 // Ops 5 to 7, which go through a link.

@@ -1,6 +1,7 @@
 // Steps shapes and prints their outcomes. Each line of the input has op, x, y, s1, s2 and a shape as its record has it
 // (k, mask and flags of each, the link values row by row); after it the output has each outcome, successor and record.
-ghost use Prim.Native.Nat.{_+_, _<_, _≤_};
+ghost use mathlib.Core.Path.{_≡_};
+ghost use Prim.Native.Nat.{_<_, _≤_};
 ghost use lib.ListN.{length};
 ghost use Rattle.model.specs.Step.{edge};
 use shape::Outcome;
@@ -14,7 +15,7 @@ const LONGEST: usize = 122;
 // ---- reading
 
 // A number of the input, and the place after it.
-struct Number {
+struct Read {
     value: u8,
     next: usize,
 }
@@ -52,7 +53,7 @@ fn skipped(text: &[u8], place: usize) -> usize
     at
 }
 
-fn number(text: &[u8], place: usize) -> Number
+fn number(text: &[u8], place: usize) -> Read
     requires { ⌜ place ≤ length (now text) ⌝ }
     ensures { λ r. ⌜ r .next ≤ length (now (text .entry)) ⌝ }
 {
@@ -60,12 +61,12 @@ fn number(text: &[u8], place: usize) -> Number
     let mut value: u8 = 0;
     while at < text.len() {
         if !is_digit(text[at]) {
-            return Number { value, next: at };
+            return Read { value, next: at };
         }
         value = with_digit(value, text[at]);
         at += 1;
     }
-    Number { value, next: at }
+    Read { value, next: at }
 }
 
 fn ten_at_most(k: u8) -> usize
@@ -197,9 +198,11 @@ fn line(text: &[u8], place: usize) -> usize
     row.next
 }
 
+// There are at most as many lines as bytes.
 fn lines(text: &[u8]) {
+    let n = text.len();
     let mut at: usize = 0;
-    for _i in 0..4096 {
+    for turn in 0..n {
         at = skipped(text, at);
         if text.len() <= at {
             return;

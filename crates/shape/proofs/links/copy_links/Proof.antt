@@ -16,10 +16,10 @@ abbrev μ-loop : tie.MeasureT-loop
 μ-loop links₀ n v b₀ links b = edge - b
 
 abbrev Inv-loop2 : tie.InvT-loop2
-Inv-loop2 links₀ n v a₀ links a = (a ≤ edge) × Down n (column n (λ a w. grid links₀ a v) (grid links₀)) (grid links₀) a links
+Inv-loop2 links₀ n v c₀ links c = (c ≤ edge) × Down n (column n (λ a w. grid links₀ a v) (grid links₀)) (grid links₀) c links
 
 abbrev μ-loop2 : tie.MeasureT-loop2
-μ-loop2 links₀ n v a₀ links a = edge - a
+μ-loop2 links₀ n v c₀ links c = edge - c
 
 loop-holds : tie.Need-loop-holds Inv-loop μ-loop Inv-loop2 μ-loop2
 loop-holds c = (omega arith, along-none (c .args .n) _ _ (c .args .links .now) (c .pre .0) refl)
@@ -79,8 +79,8 @@ add-links-2 c = search needs
 element-write-links-2 : tie.Need-element-write-links-2 Inv-loop μ-loop Inv-loop2 μ-loop2
 element-write-links-2 c = search needs
 
-add-a : tie.Need-add-a Inv-loop μ-loop Inv-loop2 μ-loop2
-add-a c = search needs
+add-c : tie.Need-add-c Inv-loop μ-loop Inv-loop2 μ-loop2
+add-c c = search needs
 
 loop2-less : tie.Need-loop2-less Inv-loop μ-loop Inv-loop2 μ-loop2
 loop2-less c = search needs
@@ -92,8 +92,8 @@ loop2-again c =
     let o = grid (c .before .before .before .before .loop .links) in
     let f : ℕ → Truth → Truth = λ a w. o a (g .v) in (
       omega arith,
-      down-next (g .n) (column (g .n) f o) o (s .links) (s .a) _ (omega arith) (omega arith) (column-else (g .n) f o)
-          (down-read (g .n) (column (g .n) f o) o (s .links) (s .a) (g .v) (omega arith) (omega arith) (s .inv .1) ∙ sym (column-here (g .n) f o (s .a))) (s .inv .1),
+      down-next (g .n) (column (g .n) f o) o (s .links) (s .c) _ (omega arith) (omega arith) (column-else (g .n) f o)
+          (down-read (g .n) (column (g .n) f o) o (s .links) (s .c) (g .v) (omega arith) (omega arith) (s .inv .1) ∙ sym (column-here (g .n) f o (s .c))) (s .inv .1),
     )
 
 returns : tie.Need-returns Inv-loop μ-loop Inv-loop2 μ-loop2
@@ -107,7 +107,7 @@ returns c =
     record {
       whole = s .inv .1 .0;
       says =
-          down-done (g .n) (column (g .n) f o) o (s .links) (s .a) (omega arith) (omega arith)
+          down-done (g .n) (column (g .n) f o) o (s .links) (s .c) (omega arith) (omega arith)
           (λ x b h. column-beyond (g .n) f (m .links) x b (sym (grid-low (m .links) x (g .v) h)) h) (s .inv .1)
           ∙ ap (λ (h : ℕ → ℕ → Truth). column (g .n) (λ a w. h a (g .v)) h)
           (along-done (g .n) (row (g .n) (grid l (g .v)) (grid l)) (grid l) (m .links) (m .b) (omega arith) (omega arith)
@@ -140,7 +140,7 @@ copy-links-spec =
     mul-links-2
     add-links-2
     element-write-links-2
-    add-a
+    add-c
     loop2-less
     loop2-again
     returns)
