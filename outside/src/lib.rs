@@ -1,9 +1,13 @@
 //! Outside tests of the claim checker: an independent implementation of document 01, a fast one, the proved library behind
 //! the feature `proved`, and what compares them.
 
+pub mod closing;
 pub mod fast;
+pub mod generate;
+pub mod large;
 pub mod library;
 pub mod notation;
+pub mod random;
 pub mod reference;
 
 use std::fmt;
