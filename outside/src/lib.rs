@@ -1,14 +1,19 @@
 //! Outside tests of the claim checker: an independent implementation of document 01, a fast one, the proved library behind
 //! the feature `proved`, and what compares them.
 
+pub mod boundary;
 pub mod closing;
 pub mod fast;
+pub mod faults;
 pub mod generate;
+pub mod judge;
 pub mod large;
 pub mod library;
 pub mod notation;
 pub mod random;
 pub mod reference;
+pub mod rounds;
+pub mod runs;
 
 use std::fmt;
 use std::ops::Range;
