@@ -14,6 +14,7 @@ pub mod random;
 pub mod reference;
 pub mod rounds;
 pub mod runs;
+pub mod timeout;
 
 use std::fmt;
 use std::ops::Range;
