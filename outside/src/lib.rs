@@ -13,6 +13,7 @@ pub mod notation;
 pub mod random;
 pub mod reference;
 pub mod rounds;
+pub mod routines;
 pub mod runs;
 pub mod timeout;
 
