@@ -69,7 +69,7 @@ fn first_uncovered(file: &[u8], layout: &Layout) -> Option<(usize, usize)> {
                     start.load(record);
                     let successor = statement[3] as usize;
                     let all = each_result(&start, statement, &mut |result| {
-                        folded.header(result);
+                        folded.fold_keys(result);
                         result_is_covered(file, layout, successor, result, &mut folded)
                     });
                     (!all).then_some(successor)
@@ -104,12 +104,22 @@ fn holder_mask(record: &[u8], variable: u8) -> u8 {
         .unwrap_or(0)
 }
 
-/// Whether the header of a result allows covering: the same keys, and a summary only where one is listed.
-fn header_covered(result: &[u8], listed: &[u8]) -> bool {
-    result[0] == listed[0]
-        && result[1..]
+/// The summary bit in each pair of mask and flags of a word.
+const SUMMARIES: u64 = 0x0200_0200_0200_0200;
+
+/// Whether the masks and flags of a result allow covering: the same keys, and a summary only where one is listed. Four
+/// individuals are compared at once.
+fn keys_covered(result: &[u8], listed: &[u8]) -> bool {
+    let (result_words, result_rest) = result.as_chunks::<8>();
+    let (listed_words, listed_rest) = listed.as_chunks::<8>();
+    let covered = |r: u64, l: u64| ((r ^ l) & !SUMMARIES) | (r & !l) == 0;
+    result_words
+        .iter()
+        .zip(listed_words)
+        .all(|(r, l)| covered(u64::from_le_bytes(*r), u64::from_le_bytes(*l)))
+        && result_rest
             .chunks_exact(2)
-            .zip(listed[1..].chunks_exact(2))
+            .zip(listed_rest.chunks_exact(2))
             .all(|(r, l)| r[0] == l[0] && (r[1] == l[1] || r[1] | 2 == l[1]))
 }
 
@@ -121,17 +131,39 @@ fn links_covered(result: &[u8], listed: &[u8]) -> bool {
         .fold(true, |all, (&r, &l)| all & (r == l || l == 2))
 }
 
-fn is_covered(file: &[u8], layout: &Layout, successor: usize, record: &[u8]) -> bool {
-    let (header, links) = record.split_at(1 + 2 * record[0] as usize);
-    layout.at(successor).any(|number| {
-        let listed = &file[layout.record(number)][1..];
-        listed.len() == record.len()
-            && header_covered(header, &listed[..header.len()])
-            && links_covered(links, &listed[header.len()..])
+/// The first of these shapes whose keys and summaries allow covering, and its link values.
+fn first_like<'a>(
+    file: &'a [u8],
+    layout: &Layout,
+    mut numbers: Range<usize>,
+    keys: &[u8],
+) -> Option<(usize, &'a [u8])> {
+    let count = keys.len() / 2;
+    let links = count * count;
+    numbers.find_map(|number| {
+        let listed = &file[layout.start(number)..];
+        if listed[1] as usize != count {
+            return None;
+        }
+        let (listed_keys, rest) = listed[2..].split_at(keys.len());
+        keys_covered(keys, listed_keys).then(|| (number, &rest[..links]))
     })
 }
 
-/// As `is_covered`, but the links are folded only once a header agrees.
+/// Whether a record is covered by one of the shapes at the successor.
+fn is_covered(file: &[u8], layout: &Layout, successor: usize, record: &[u8]) -> bool {
+    let (keys, links) = record[1..].split_at(2 * record[0] as usize);
+    let mut numbers = layout.at(successor);
+    while let Some((number, listed)) = first_like(file, layout, numbers.clone(), keys) {
+        if links_covered(links, listed) {
+            return true;
+        }
+        numbers.start = number + 1;
+    }
+    false
+}
+
+/// As `is_covered`, but the links are folded only once the keys agree.
 fn result_is_covered(
     file: &[u8],
     layout: &Layout,
@@ -139,22 +171,20 @@ fn result_is_covered(
     result: &Working,
     folded: &mut Folded,
 ) -> bool {
-    let header = folded.header_length();
-    let mut with_links = false;
-    for number in layout.at(successor) {
-        let listed = &file[layout.record(number)][1..];
-        if listed.len() != folded.length() || !header_covered(folded.head(), &listed[..header]) {
-            continue;
-        }
-        if !with_links {
-            folded.links(result);
-            with_links = true;
-        }
-        if links_covered(folded.link_values(), &listed[header..]) {
-            return true;
-        }
+    let mut numbers = layout.at(successor);
+    let Some((mut number, mut listed)) = first_like(file, layout, numbers.clone(), folded.keys())
+    else {
+        return false;
+    };
+    folded.links(result);
+    while !links_covered(folded.link_values(), listed) {
+        numbers.start = number + 1;
+        let Some(next) = first_like(file, layout, numbers.clone(), folded.keys()) else {
+            return false;
+        };
+        (number, listed) = next;
     }
-    false
+    true
 }
 
 fn byte_of(file: &[u8], layout: &Layout, point: usize) -> u8 {
@@ -195,7 +225,7 @@ pub fn results(statement: [u8; RECORD], record: &[u8]) -> Vec<(u8, Vec<u8>)> {
             start.load(record);
             let mut folded = Folded::new();
             each_result(&start, &statement, &mut |result| {
-                folded.header(result);
+                folded.fold_keys(result);
                 folded.links(result);
                 results.push((statement[3], folded.bytes().to_vec()));
                 true

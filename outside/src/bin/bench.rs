@@ -3,9 +3,10 @@
 
 use outside::random::Random;
 use outside::rounds::claim_files;
-use outside::{fast, generate, large, library, reference, Check};
+use outside::{fast, generate, implementations, large, library, reference, Check};
 use std::hint::black_box;
 use std::path::Path;
+use std::process::ExitCode;
 use std::time::{Duration, Instant};
 
 /// Inputs that are measured together.
@@ -101,7 +102,48 @@ fn measure(checks: [Check; 2], files: &[Vec<u8>]) -> [f64; 2] {
     times.map(median)
 }
 
-fn main() {
+/// `--once WHO ROW`: one pass of one implementation over the inputs of a row, for a profiler that counts instructions.
+fn once(who: &str, row: &str) -> Result<(), String> {
+    let all = implementations();
+    let names: Vec<&str> = all.iter().map(|(name, _)| *name).collect();
+    let (_, implementation) = all
+        .iter()
+        .find(|(name, _)| *name == who)
+        .ok_or(format!("no {who} here, there are: {}", names.join(", ")))?;
+    let mut workloads = workloads();
+    let row: usize = row
+        .parse()
+        .ok()
+        .filter(|&row| row < workloads.len())
+        .ok_or(format!("rows are 0 to {}", workloads.len() - 1))?;
+    let Workload { name, files } = workloads.swap_remove(row);
+    turn(implementation.check, &files, 1);
+    println!("{who}, one pass: {name}");
+    Ok(())
+}
+
+fn main() -> ExitCode {
+    let words: Vec<String> = std::env::args().skip(1).collect();
+    match words.iter().map(String::as_str).collect::<Vec<_>>()[..] {
+        [] => {
+            bench();
+            ExitCode::SUCCESS
+        }
+        ["--once", who, row] => match once(who, row) {
+            Ok(()) => ExitCode::SUCCESS,
+            Err(error) => {
+                eprintln!("{error}");
+                ExitCode::FAILURE
+            }
+        },
+        _ => {
+            eprintln!("usage: bench [--once reference|fast|library ROW]");
+            ExitCode::from(2)
+        }
+    }
+}
+
+fn bench() {
     if cfg!(debug_assertions) {
         println!("not built for release: the figures mean nothing");
     }

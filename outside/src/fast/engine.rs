@@ -2,7 +2,7 @@
 
 /// Room for the individuals of a working shape: 11, rounded up so that a row is one word of 16 bytes.
 pub const MOST: usize = 11;
-const ROW: usize = 16;
+pub const ROW: usize = 16;
 
 pub const SHARED: u8 = 1;
 pub const SUMMARY: u8 = 2;

@@ -43,6 +43,11 @@ impl Layout {
         self.starts[number] as usize..self.starts[number + 1] as usize
     }
 
+    /// Where a shape's record starts.
+    pub fn start(&self, number: usize) -> usize {
+        self.starts[number] as usize
+    }
+
     pub fn statement<'a>(&self, file: &'a [u8], point: usize) -> &'a [u8; RECORD] {
         let start = PROGRAM + RECORD * point;
         file[start..]
