@@ -125,8 +125,13 @@ fn entry(random: &mut Random, variables: u8) -> Shape {
 /// A random accepted claim of at most `most` shapes: entry shapes and every uncovered outcome until nothing is missing.
 pub fn accepted_claim(random: &mut Random, most: usize) -> Claim {
     loop {
-        let variables = random.below(7) as u8;
-        let points = 1 + random.below(8) as u8;
+        // Mostly small, now and then up to the limits of the format.
+        let (variables, points) = if random.once_in(10) {
+            (random.below(9), 1 + random.below(64))
+        } else {
+            (random.below(6), 1 + random.below(8))
+        };
+        let (variables, points) = (variables as u8, points as u8);
         let program = program(random, variables, points);
         let entries: Vec<Shape> = (0..1 + random.below(3))
             .map(|_| entry(random, variables))

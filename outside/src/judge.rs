@@ -109,14 +109,13 @@ impl Judge {
             if copy != file {
                 return disagree(format!("{name} wrote to the file"));
             }
+            if other != verdict {
+                return disagree(format!(
+                    "answer of length {length}: reference {verdict}, {name} {other}"
+                ));
+            }
             if !untouched(&other_buffer, written) {
                 return disagree(format!("{name} wrote outside, length {length}"));
-            }
-            if other != verdict {
-                let (a, b) = ((verdict.a, verdict.b), (other.a, other.b));
-                return disagree(format!(
-                    "answer of length {length}: reference {verdict} {a:?}, {name} {other} {b:?}"
-                ));
             }
             if other_buffer != buffer {
                 let found = &other_buffer[GUARD..GUARD + length];

@@ -3,7 +3,7 @@
 use crate::judge::{Disagreement, Judge};
 use crate::random::Random;
 use crate::reference::{read, Claim};
-use crate::runs::{try_runs, Tried};
+use crate::runs::{try_runs, try_step, Tried};
 use crate::{boundary, faults, generate};
 use std::fs;
 use std::path::Path;
@@ -39,8 +39,13 @@ fn dozen(claims: &Path, random: &mut Random) -> Vec<Vec<u8>> {
 }
 
 /// The dozen files cut at every place and with every byte changed to every other; boundary files; every claim that stands
-/// in the repository.
-pub fn exhaustive(judge: &mut Judge, claims: &Path, seed: u64) -> Result<(), Disagreement> {
+/// in the repository, with its runs.
+pub fn exhaustive(
+    judge: &mut Judge,
+    tried: &mut Tried,
+    claims: &Path,
+    seed: u64,
+) -> Result<(), Disagreement> {
     let mut random = Random::new(seed);
     for file in dozen(claims, &mut random) {
         judge.file("the dozen files", &file)?;
@@ -77,8 +82,13 @@ pub fn exhaustive(judge: &mut Judge, claims: &Path, seed: u64) -> Result<(), Dis
     }
     for path in claim_files(claims) {
         let file = fs::read(&path).unwrap_or_else(|error| panic!("{}: {error}", path.display()));
-        judge.file("claims of the repository", &file)?;
+        let kind = "claims of the repository";
+        let (verdict, answer) = judge.answer(kind, &file, 66)?;
         judge.records(&file)?;
+        if let (true, Ok(reading)) = (verdict.accepted(), read(&file)) {
+            try_runs(&mut random, &reading.claim, &answer, 100, 200, tried)
+                .map_err(|what| Disagreement { kind, what, file })?;
+        }
     }
     Ok(())
 }
@@ -101,7 +111,7 @@ pub fn round(
     random: &mut Random,
     tried: &mut Tried,
 ) -> Result<(), Disagreement> {
-    let most = *random.pick(&[10, 20, 40, 80, 200]);
+    let most = *random.pick(&[10, 20, 40, 80, 200, 512]);
     let claim = generate::accepted_claim(random, most);
     let file = claim.bytes();
     let fault = |what: String| Disagreement {
@@ -113,7 +123,10 @@ pub fn round(
     if !verdict.accepted() {
         return Err(fault(format!("a closed claim was refused: {verdict}")));
     }
-    try_runs(random, &claim, &answer, 6, 60, tried).map_err(fault)?;
+    try_runs(random, &claim, &answer, 6, 60, tried).map_err(&fault)?;
+    for _ in 0..20 {
+        try_step(random, tried).map_err(&fault)?;
+    }
     judge.every_length(&file)?;
     judge.records(&file)?;
     for _ in 0..4 {

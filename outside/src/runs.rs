@@ -1,15 +1,41 @@
 //! Demand 3 tried: stores that fit an entry shape of an accepted claim are run, and each store that is reached must fit a
 //! listed shape and be as the answer byte says.
 
-use crate::generate::fitting_store;
+use crate::generate::{self, fitting_store};
 use crate::random::Random;
-use crate::reference::{run_step, Claim, Next, Shape, Store};
+use crate::reference::{run_step, step, Claim, Next, Shape, Store};
 
 /// What was tried.
 #[derive(Default)]
 pub struct Tried {
+    /// Runs from stores that fit an entry shape.
     pub runs: u64,
+    /// Stores that runs reached.
     pub stores: u64,
+    /// Single steps of a store held against the results of a shape that it fits.
+    pub steps: u64,
+}
+
+/// One step of a random store that fits a random shape: the store after it fits one of the shape's results at the same
+/// successor.
+pub fn try_step(random: &mut Random, tried: &mut Tried) -> Result<(), String> {
+    let variables = 1 + random.below(4) as u8;
+    let cells = random.below(7);
+    let store = generate::store(random, variables, cells);
+    let shape = generate::blurred(random, &store.shape());
+    let statement = generate::program(random, variables, 2)[0];
+    tried.steps += 1;
+    let Next::At(successor, after) = run_step(&store, statement) else {
+        return Ok(());
+    };
+    let fits = |(at, result): &(u8, Shape)| *at == successor && after.fits(result);
+    if step(&shape, statement).iter().any(fits) {
+        Ok(())
+    } else {
+        Err(format!(
+            "{store:?} fits {shape:?}, and after {statement:?} it fits no result"
+        ))
+    }
 }
 
 /// Runs some stores from the entry shapes; the error says what didn't hold.

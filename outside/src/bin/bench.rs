@@ -1,5 +1,5 @@
 //! The benchmark: the same inputs through the proved library and the fast implementation, alternating, in one run. The
-//! figure is the ratio of the medians. Without the feature `proved` the reference takes the library's place.
+//! figure is the ratio. Without the feature `proved` the reference takes the library's place.
 
 use outside::random::Random;
 use outside::rounds::claim_files;
@@ -81,25 +81,37 @@ fn passes(check: Check, files: &[Vec<u8>]) -> u32 {
     (TURN.as_nanos() / once.as_nanos()).clamp(1, 100_000) as u32
 }
 
-fn median(mut times: Vec<Duration>) -> f64 {
-    times.sort();
-    times[times.len() / 2].as_secs_f64() * 1e6
+fn median(mut values: Vec<f64>) -> f64 {
+    values.sort_by(f64::total_cmp);
+    values[values.len() / 2]
 }
 
-/// The medians of both for one pass, in microseconds, taken in turns.
-fn measure(checks: [Check; 2], files: &[Vec<u8>]) -> [f64; 2] {
+/// Medians over the turns of a workload: microseconds that one pass takes, and the ratio of turns taken side by side, which
+/// other load on the machine disturbs least.
+struct Figures {
+    one: f64,
+    other: f64,
+    ratio: f64,
+}
+
+fn measure(checks: [Check; 2], files: &[Vec<u8>]) -> Figures {
     let passes = checks.map(|check| passes(check, files));
-    let mut times = [Vec::new(), Vec::new()];
+    let mut times: Vec<[f64; 2]> = Vec::new();
     let start = Instant::now();
-    while times[0].len() < FEWEST_TURNS || (times[0].len() < MOST_TURNS && start.elapsed() < BUDGET)
-    {
+    while times.len() < FEWEST_TURNS || (times.len() < MOST_TURNS && start.elapsed() < BUDGET) {
         // Which comes first changes from turn to turn.
-        let first = times[0].len() % 2;
+        let first = times.len() % 2;
+        let mut both = [0.0; 2];
         for which in [first, 1 - first] {
-            times[which].push(turn(checks[which], files, passes[which]));
+            both[which] = turn(checks[which], files, passes[which]).as_secs_f64() * 1e6;
         }
+        times.push(both);
     }
-    times.map(median)
+    Figures {
+        one: median(times.iter().map(|both| both[0]).collect()),
+        other: median(times.iter().map(|both| both[1]).collect()),
+        ratio: median(times.iter().map(|both| both[0] / both[1]).collect()),
+    }
 }
 
 /// `--once WHO ROW`: one pass of one implementation over the inputs of a row, for a profiler that counts instructions.
@@ -161,11 +173,8 @@ fn bench() {
         "ratio"
     );
     for Workload { name, files } in workloads() {
-        let [one, other] = measure([check, fast::check], &files);
+        let Figures { one, other, ratio } = measure([check, fast::check], &files);
         let bytes: usize = files.iter().map(Vec::len).sum();
-        println!(
-            "{name:<36}{bytes:>9}{one:>14.2}{other:>14.2}{:>10.2}",
-            one / other
-        );
+        println!("{name:<36}{bytes:>9}{one:>14.2}{other:>14.2}{ratio:>10.2}");
     }
 }

@@ -72,7 +72,7 @@ fn compare(judge: &mut Judge, options: &Options, tried: &mut Tried) -> Result<()
         return round(judge, &mut random_of(seed, number), tried).map_err(dump(one));
     }
     let claims = Path::new(env!("CARGO_MANIFEST_DIR")).join("../claims");
-    exhaustive(judge, &claims, seed).map_err(dump(format!("--seed {seed} --count 0")))?;
+    exhaustive(judge, tried, &claims, seed).map_err(dump(format!("--seed {seed} --count 0")))?;
     let start = Instant::now();
     let mut number = 0;
     while options.rounds.is_none_or(|rounds| number < rounds)
@@ -103,11 +103,19 @@ fn main() -> ExitCode {
     for (number, count) in judge.numbers.iter().enumerate() {
         println!("{count:>9}  verdicts with number {number}");
     }
-    println!(
-        "{:>9}  runs from stores that fit an entry shape",
-        tried.runs
-    );
-    println!("{:>9}  stores reached and tested", tried.stores);
+    for (count, what) in [
+        (tried.runs, "runs from stores that fit an entry shape"),
+        (
+            tried.stores,
+            "stores reached, tested for fit and against the answer",
+        ),
+        (
+            tried.steps,
+            "single steps of a store and of a shape that it fits",
+        ),
+    ] {
+        println!("{count:>9}  {what}");
+    }
     let all: u64 = judge.kinds.values().sum();
     println!("{all:>9}  comparisons, nothing disagreed");
     ExitCode::SUCCESS
