@@ -15,6 +15,7 @@ pub mod reference;
 pub mod rounds;
 pub mod routines;
 pub mod runs;
+pub mod soak;
 pub mod timeout;
 
 use std::fmt;

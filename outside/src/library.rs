@@ -1,4 +1,5 @@
-//! The proved library: its C face and safe wrappers. Without the feature `proved` nothing is linked and calls panic.
+//! The proved library: its C face and safe wrappers. Without the feature `proved` nothing is linked and calls panic. Also
+//! the entry that a fuzzer calls, for all unsafe code stands here.
 
 use crate::Verdict;
 use std::ops::Range;
@@ -69,4 +70,18 @@ pub fn check(_file: &[u8], _answer: &mut [u8]) -> Verdict {
 #[cfg(not(feature = "proved"))]
 pub fn record(_file: &[u8], _number: usize) -> Range<usize> {
     panic!("built without the feature `proved`")
+}
+
+/// What libFuzzer calls with each input.
+#[cfg(feature = "soak")]
+#[no_mangle]
+pub extern "C" fn LLVMFuzzerTestOneInput(start: *const u8, length: usize) -> i32 {
+    let file = if length == 0 {
+        &[]
+    } else {
+        // SAFETY: libFuzzer lends so many bytes for the length of this call.
+        unsafe { std::slice::from_raw_parts(start, length) }
+    };
+    crate::soak::one(file);
+    0
 }

@@ -21,7 +21,7 @@ impl Random {
 
     /// A number below the limit, which isn't 0.
     pub fn below(&mut self, limit: usize) -> usize {
-        ((self.number() >> 32) * limit as u64 >> 32) as usize
+        (((self.number() >> 32) * limit as u64) >> 32) as usize
     }
 
     pub fn byte(&mut self) -> u8 {
