@@ -73,13 +73,16 @@ pub fn record(_file: &[u8], _number: usize) -> Range<usize> {
 }
 
 /// What libFuzzer calls with each input.
+///
+/// # Safety
+/// `start` and `length` are bytes that may be read for the length of the call.
 #[cfg(feature = "soak")]
 #[no_mangle]
-pub extern "C" fn LLVMFuzzerTestOneInput(start: *const u8, length: usize) -> i32 {
+pub unsafe extern "C" fn LLVMFuzzerTestOneInput(start: *const u8, length: usize) -> i32 {
     let file = if length == 0 {
         &[]
     } else {
-        // SAFETY: libFuzzer lends so many bytes for the length of this call.
+        // SAFETY: as above; an empty input may come with any pointer.
         unsafe { std::slice::from_raw_parts(start, length) }
     };
     crate::soak::one(file);
