@@ -113,6 +113,6 @@ mod tests {
             assert!(covered(&claim, &closed), "{name}");
             count += 1;
         }
-        assert!(count >= 17);
+        assert_eq!(count, 18);
     }
 }

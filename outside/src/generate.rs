@@ -25,7 +25,7 @@ fn statement(random: &mut Random, variables: u8, points: u8, point: u8) -> State
         if used[field] {
             record[field + 1] = if field < 2 {
                 random.below(variables.into()) as u8
-            } else if random.once_in(3) {
+            } else if random.once_in(5) {
                 random.below(points.into()) as u8
             } else {
                 (point + 1) % points
@@ -95,12 +95,13 @@ pub fn store(random: &mut Random, variables: u8, cells: usize) -> Store {
 /// A shape that covers the one given: some links become 1/2, some nameless individuals summaries.
 pub fn blurred(random: &mut Random, shape: &Shape) -> Shape {
     let mut blurred = shape.clone();
+    let rate = *random.pick(&[1, 2, 4, 8]);
     for key in shape.keys() {
         if key.mask() == 0 && random.once_in(2) {
             blurred.add(key, true);
         }
         for to in shape.keys() {
-            if random.once_in(4) {
+            if random.once_in(rate) {
                 blurred.set_link(key, to, Truth::Half);
             }
         }
@@ -123,28 +124,44 @@ fn entry(random: &mut Random, variables: u8) -> Shape {
 }
 
 /// A random accepted claim of at most `most` shapes: entry shapes and every uncovered outcome until nothing is missing.
+/// The largest of some that were made, for most programs come to an end soon.
 pub fn accepted_claim(random: &mut Random, most: usize) -> Claim {
-    loop {
-        // Mostly small, now and then up to the limits of the format.
-        let (variables, points) = if random.once_in(10) {
-            (random.below(9), 1 + random.below(64))
-        } else {
-            (random.below(6), 1 + random.below(8))
+    let mut best: Option<Claim> = None;
+    let tries = 1 + random.below(6);
+    let mut made = 0;
+    while made < tries {
+        let Some(claim) = closed_claim(random, most) else {
+            continue;
         };
-        let (variables, points) = (variables as u8, points as u8);
-        let program = program(random, variables, points);
-        let entries: Vec<Shape> = (0..1 + random.below(3))
-            .map(|_| entry(random, variables))
-            .collect();
-        let listed = if random.once_in(4) {
-            Listed::Itself
-        } else {
-            Listed::Covered
-        };
-        if let Some(claim) = close(variables, &program, &entries, listed, most) {
-            return claim;
+        made += 1;
+        if best
+            .as_ref()
+            .is_none_or(|best| best.listed.len() < claim.listed.len())
+        {
+            best = Some(claim);
         }
     }
+    best.expect("at least one claim was made")
+}
+
+fn closed_claim(random: &mut Random, most: usize) -> Option<Claim> {
+    // Mostly small, now and then up to the limits of the format.
+    let (variables, points) = if random.once_in(10) {
+        (random.below(9), 1 + random.below(64))
+    } else {
+        (1 + random.below(5), 1 + random.below(8))
+    };
+    let (variables, points) = (variables as u8, points as u8);
+    let program = program(random, variables, points);
+    let entries: Vec<Shape> = (0..1 + random.below(3))
+        .map(|_| entry(random, variables))
+        .collect();
+    let listed = if random.once_in(4) {
+        Listed::Itself
+    } else {
+        Listed::Covered
+    };
+    close(variables, &program, &entries, listed, most)
 }
 
 /// A random store that fits the shape; none if none was found.

@@ -71,5 +71,5 @@ fn every_file_of_base_prints_what_is_expected() {
 
 #[test]
 fn every_routine_prints_what_is_expected() {
-    assert!(check_directory(&here("../claims")) >= 17);
+    assert_eq!(check_directory(&here("../claims")), 19);
 }
