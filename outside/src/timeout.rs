@@ -22,78 +22,23 @@ pub const STOP: u8 = 12;
 
 /// The routine: find the cell before the late one, unlink the late one, push it on the retry list.
 pub fn program() -> Vec<Statement> {
-    let (x, y) = (WALK, LATE);
-    vec![
-        /* 0 */ Statement::SetNull { x: PREV, next: 1 },
-        /* 1 */
-        Statement::Copy {
-            x,
-            y: PENDING,
-            next: 2,
-        },
-        /* 2 */
-        Statement::IsNull {
-            x,
-            yes: STOP,
-            no: 3,
-        },
-        /* 3 */
-        Statement::Same {
-            x,
-            y,
-            yes: 6,
-            no: 4,
-        },
-        /* 4 */
-        Statement::Copy {
-            x: PREV,
-            y: WALK,
-            next: 5,
-        },
-        /* 5 */
-        Statement::Follow {
-            x,
-            y: WALK,
-            next: 2,
-        },
-        /* 6 */
-        Statement::Follow {
-            x,
-            y: LATE,
-            next: 7,
-        },
-        /* 7 */
-        Statement::IsNull {
-            x: PREV,
-            yes: 8,
-            no: 9,
-        },
-        /* 8 */
-        Statement::Copy {
-            x: PENDING,
-            y: WALK,
-            next: 10,
-        },
-        /* 9 */
-        Statement::SetLink {
-            x: PREV,
-            y: WALK,
-            next: 10,
-        },
-        /* 10 */
-        Statement::SetLink {
-            x: LATE,
-            y: RETRY,
-            next: 11,
-        },
-        /* 11 */
-        Statement::Copy {
-            x: RETRY,
-            y: LATE,
-            next: STOP,
-        },
-        /* 12 */ Statement::Stop,
+    [
+        [2, PREV, 0, 1, 0],        //  0  prev = null
+        [3, WALK, PENDING, 2, 0],  //  1  walk = pending
+        [8, WALK, 0, STOP, 3],     //  2  walk == null?
+        [9, WALK, LATE, 6, 4],     //  3  walk == late?
+        [3, PREV, WALK, 5, 0],     //  4  prev = walk
+        [5, WALK, WALK, 2, 0],     //  5  walk = walk->n
+        [5, WALK, LATE, 7, 0],     //  6  walk = late->n
+        [8, PREV, 0, 8, 9],        //  7  prev == null?
+        [3, PENDING, WALK, 10, 0], //  8  pending = walk
+        [7, PREV, WALK, 10, 0],    //  9  prev->n = walk
+        [7, LATE, RETRY, 11, 0],   // 10  late->n = retry
+        [3, RETRY, LATE, STOP, 0], // 11  retry = late
+        [0, 0, 0, 0, 0],           // 12  stop
     ]
+    .map(Statement::from_record)
+    .to_vec()
 }
 
 /// The entry shapes: the late cell first or later in a pending list of any length, beside a retry list of any length.
