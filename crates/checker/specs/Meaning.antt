@@ -1,10 +1,13 @@
 -- What the checker's answers mean in the definitions.
-use Prim.Native.Nat.{ℕ, _<_}
-use mathlib.Core.Bool.{Bool, not}
+use Prim.Native.Nat.{ℕ, suc, _-_, _<_}
+use mathlib.Core.Bool.{Bool, not, cond}
 use mathlib.Core.List.{List}
 use mathlib.Core.Path.{_≡_}
 use Rattle.model.specs.Finite.{Ref, null, at, null?}
 use Rattle.model.specs.Shape.{Shape, holder}
+use lib.Dec.{ltb}
+use Rattle.model.specs.Format.{format}
+use Rattle.model.specs.File.{Reading, fine, refused, reading, version, shapes, start}
 use Rattle.model.specs.Claim.{Claim, claim}
 use Rattle.model.specs.Verdict as M
 use Rattle.model.specs.Verdict.{lost-from, lowest-lost, none-shared}
@@ -43,3 +46,12 @@ test-of Unshared T = none-shared T
 abbrev pub Known : Test → Type 0
 Known (Sets x) = x < 16
 Known Unshared = 0 < 16
+
+-- the second call by start and length: where the part stands that is handed back, or 0 and 0
+abbrev pub place-if : Reading → List ℕ → ℕ → ℕ × ℕ
+place-if fine f i =
+    cond (ltb i (shapes f)) (start (format (version f)) f i, start (format (version f)) f (suc i) - start (format (version f)) f i) (0, 0)
+place-if (refused fault place) f i = (0, 0)
+
+unfoldable pub handed-place : List ℕ → ℕ → ℕ × ℕ
+handed-place f i = place-if (reading f) f i

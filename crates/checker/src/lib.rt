@@ -14,6 +14,7 @@ use claim::fields::Fault;
 use claim::fields::Reading;
 
 mod answers;
+pub mod face;
 mod records;
 mod search;
 
