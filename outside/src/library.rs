@@ -16,7 +16,7 @@ extern "C" {
         answer_len: usize,
         a: *mut usize,
         b: *mut usize,
-    ) -> u32;
+    ) -> usize;
 
     fn claim_record(file: *const u8, file_len: usize, number: usize, start: *mut usize) -> usize;
 }
@@ -50,7 +50,11 @@ pub fn check(file: &[u8], answer: &mut [u8]) -> Verdict {
     // SAFETY: both pairs are a valid pointer and the length that may be read or written there; a and b are places to write.
     let number = unsafe { claim_check(start_of(file), file.len(), answer, length, &mut a, &mut b) };
     assert_eq!(nothing, 0, "a write into an answer of length 0");
-    Verdict { number, a, b }
+    Verdict {
+        number: number as u32,
+        a,
+        b,
+    }
 }
 
 /// The part of the file that holds the record of a shape.

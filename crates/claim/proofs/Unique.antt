@@ -14,7 +14,7 @@ use Rattle.claim.specs.Answers.{fault-of, reading-of}
 use Rattle.claim.specs.Reads.{handed-on, Reads}
 
 -- the case that means a fault, and the answer that means a reading
-case-of : model.Fault → Fault
+unfoldable pub case-of : model.Fault → Fault
 case-of cut-short = CutShort
 case-of wrong-mark = WrongMark
 case-of wrong-version = WrongVersion
@@ -22,7 +22,7 @@ case-of beyond-limit = BeyondLimit
 case-of wrong-point = WrongPoint
 case-of wrong-shape = WrongShape
 
-case-back : (w : Fault) → case-of (fault-of w) ≡ w
+pub case-back : (w : Fault) → case-of (fault-of w) ≡ w
 unfolding case-of
 case-back CutShort = refl
 case-back WrongMark = refl
