@@ -14,3 +14,4 @@ pub mod Folded
 pub mod ByKeys
 pub mod Recorded
 pub mod Trims
+pub mod Laying
