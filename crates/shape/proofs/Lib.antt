@@ -15,3 +15,4 @@ pub mod ByKeys
 pub mod Recorded
 pub mod Trims
 pub mod Laying
+pub mod Inverse
