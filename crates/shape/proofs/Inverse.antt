@@ -212,3 +212,110 @@ module _ (w p : ℕ) (W : Shape) (t : List ℕ) where
 pub read-record : (w p : ℕ) (W : Shape) → Within w W → shape-of (sized w) (record-of (sized w) p W) ≡ trimmed W
 read-record w p W q =
     ap (shape-of (sized w)) (sym (append-nil (record-of (sized w) p W))) ∙ read-written w p W [] q
+
+-- ---- what is read is written again
+
+take-one : (l : List ℕ) (j : ℕ) → j < length l → take 1 (drop j l) ≡ getD l j 0 ∷ []
+take-one l j h = ap (take 1) (drop-cons l j 0 h)
+
+-- the record of p, k and a rest that is as long as the record says
+module _ (w p k : ℕ) (rest : List ℕ) (q : Regular w (p ∷ k ∷ rest)) where
+  abbrev part : List ℕ
+  part = p ∷ k ∷ rest
+
+  abbrev held : Shape
+  held = shape-of (sized w) part
+
+  rest-length : length rest ≡ (w + 1) * k + k * k
+  rest-length = let z = q .exact in omega arith
+
+  in-rest : (x : ℕ) → getD rest x 0 ≡ byte part (2 + x)
+  in-rest x = sym (getD-append-add (p ∷ k ∷ []) rest x 0)
+
+  below : (a : ℕ) → a < k → ltb a (size-at part 0) ≡ true
+  below a h = lt-ltb a k h
+
+  flags-again : (a : ℕ) → a < k → flags-of held a ≡ byte part (2 + (w + 1) * a + w)
+  flags-again a h =
+      rw (lt-ltb a k h)
+      (let z = q .flagged a h in
+      let y = flags-are (byte part (2 + (w + 1) * a + w)) in
+      sym y ∙ (let x : byte part (2 + (w + 1) * a + w) % 4 ≡ byte part (2 + (w + 1) * a + w) = omega arith in x))
+
+  mask-again : (a : ℕ) → a < k → held .mask a ≡ number w part (2 + (w + 1) * a)
+  mask-again a h = rw (lt-ltb a k h)
+
+  link-again : (a b : ℕ) → a < k → b < k → code (held .n .link a b) ≡ byte part (2 + (w + 1) * k + k * a + b)
+  link-again a b h l = rw (lt-ltb a k h, lt-ltb b k l) (code-truth _ (q .linked a b h l))
+
+  -- byte j of individual a
+  block-byte : (a j : ℕ) → a < k → j < w + 1 → getD (block w p held [] a) j 0 ≡ byte part (2 + (w + 1) * a + j)
+  block-byte a j h l =
+      top-or-below w j (let z : j < suc w = omega arith in z)
+      (λ e.
+      ap (λ (x : ℕ). getD (block w p held [] a) x 0) e
+      ∙ getD-at (bytes w (held .mask a)) (flags-of held a) [] 0 w (bytes-length w (held .mask a))
+      ∙ flags-again a h ∙ ap (λ (x : ℕ). byte part (2 + (w + 1) * a + x)) (sym e))
+      (λ m.
+      List·getD-append (bytes w (held .mask a)) (flags-of held a ∷ []) 0 j (let z = bytes-length w (held .mask a) in omega arith)
+      ∙ ap (λ (v : ℕ). getD (bytes w v) j 0) (mask-again a h)
+      ∙ bytes-read w (q .readable .some) (q .readable .narrow) part (2 + (w + 1) * a)
+      (λ i n. q .low (2 + (w + 1) * a + i) (let z = step-fits (w + 1) a k h in let y = rest-length in omega arith))
+      j m)
+
+  fits : (a : ℕ) → a < k → w + 1 ≤ length (drop ((w + 1) * a) rest)
+  fits a h =
+      let z = step-fits (w + 1) a k h in
+      let y = rest-length in
+      let x = length-drop ((w + 1) * a) rest in
+      omega arith
+
+  block-again : (a : ℕ) → a < k → block w p held [] a ≡ take (w + 1) (drop ((w + 1) * a) rest)
+  block-again a h =
+      ext-getD 0 (block w p held [] a) (take (w + 1) (drop ((w + 1) * a) rest))
+      (block-length w p held [] a ∙ sym (length-take-le (w + 1) (drop ((w + 1) * a) rest) (fits a h)))
+      (λ j l.
+      let m : j < w + 1 = (let z = block-length w p held [] a in omega arith) in
+      block-byte a j h m
+      ∙ ap (byte part) (let z : 2 + (w + 1) * a + j ≡ 2 + ((w + 1) * a + j) = omega arith in z)
+      ∙ sym (in-rest ((w + 1) * a + j))
+      ∙ sym (getD-drop ((w + 1) * a) rest j 0)
+      ∙ sym (getD-take (w + 1) (drop ((w + 1) * a) rest) j 0 m))
+
+  abbrev cells : List ℕ
+  cells = drop ((w + 1) * k) rest
+
+  cells-length : length cells ≡ k * k
+  cells-length = let z = rest-length in let y = length-drop ((w + 1) * k) rest in omega arith
+
+  line-again : (a : ℕ) → a < k → line w p held [] a ≡ take k (drop (k * a) cells)
+  line-again a h =
+      each-read (λ b. code (held .n .link a b) ∷ []) 1 (drop (k * a) cells) k
+      (λ b l.
+      ap (λ (x : ℕ). x ∷ [])
+      (link-again a b h l
+      ∙ ap (byte part) (let z : 2 + (w + 1) * k + k * a + b ≡ 2 + ((w + 1) * k + (k * a + b)) = omega arith in z)
+      ∙ sym (in-rest ((w + 1) * k + (k * a + b)))
+      ∙ sym (getD-drop ((w + 1) * k) rest (k * a + b) 0)
+      ∙ sym (getD-drop (k * a) cells b 0))
+      ∙ sym (take-one (drop (k * a) cells) b
+      (let z = step-fits k a k h in
+      let y = cells-length in
+      let x = length-drop (k * a) cells in
+      omega arith))
+      ∙ ap (λ (x : ℕ). take 1 (drop x (drop (k * a) cells))) (let z : b ≡ 1 * b = omega arith in z))
+      ∙ ap (λ (x : ℕ). take x (drop (k * a) cells)) (let z : 1 * k ≡ k = omega arith in z)
+
+  again : record-of (sized w) p held ≡ part
+  again =
+      ap (λ (l : List ℕ). p ∷ k ∷ l)
+      (ap₂ _++_
+      (each-read (block w p held []) (w + 1) rest k block-again)
+      (each-read (line w p held []) k cells k line-again)
+      ∙ sym (take-add ((w + 1) * k) (k * k) rest)
+      ∙ take-all ((w + 1) * k + k * k) rest (let z = rest-length in omega arith))
+
+pub write-read : (w : ℕ) (r : List ℕ) → Regular w r → record-of (sized w) (byte r 0) (shape-of (sized w) r) ≡ r
+write-read w [] q = absurd (let z = q .exact in omega arith)
+write-read w (p ∷ []) q = absurd (let z = q .exact in omega arith)
+write-read w (p ∷ k ∷ rest) q = again w p k rest q
