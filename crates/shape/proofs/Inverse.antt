@@ -15,7 +15,7 @@ use Rattle.model.specs.Finite.{each}
 use Rattle.model.specs.Shape.{Shape}
 use Rattle.model.specs.File.{byte, number, size-at, individuals-at, links-at, past, flags}
 use Rattle.model.specs.Claim.{bytes, flags-of, record-of, shape-of}
-use Rattle.model.proofs.Bools.{top-or-below, and-left, and-right, and-both, cond-cong}
+use Rattle.model.proofs.Bools.{top-or-below, and-left, and-right, cond-cong}
 use Rattle.shape.specs.Meaning.{trimmed}
 use Rattle.shape.specs.Records.{sized, Readable}
 use Rattle.shape.proofs.Entries.{made-eq}
@@ -231,9 +231,6 @@ module _ (w p k : ℕ) (rest : List ℕ) (q : Regular w (p ∷ k ∷ rest)) wher
 
   in-rest : (x : ℕ) → getD rest x 0 ≡ byte part (2 + x)
   in-rest x = sym (getD-append-add (p ∷ k ∷ []) rest x 0)
-
-  below : (a : ℕ) → a < k → ltb a (size-at part 0) ≡ true
-  below a h = lt-ltb a k h
 
   flags-again : (a : ℕ) → a < k → flags-of held a ≡ byte part (2 + (w + 1) * a + w)
   flags-again a h =

@@ -59,7 +59,13 @@ fn individual(m: u16, f: u8, width: usize, at: usize, out: &mut [u8])
 }
 
 // The k individuals, from byte 2 on.
-fn individuals<'a>(masks: &'a [u16; EDGE], flags: &'a [u8; EDGE], k: usize, width: usize, out: &mut [u8])
+fn individuals<'a>(
+    masks: &'a [u16; EDGE],
+    flags: &'a [u8; EDGE],
+    k: usize,
+    width: usize,
+    out: &mut [u8],
+)
     requires { ⌜ (1 ≤ width) × (width ≤ 2) × (k ≤ edge) × (2 + (width + 1) * k ≤ length (now out)) ⌝ }
     ensures { λ _. ⌜ now (out .exit) ≡ laid (now (out .entry)) 2 (each k (individual-bytes width (now (masks .entry)) (now (flags .entry)))) ⌝ }
 {

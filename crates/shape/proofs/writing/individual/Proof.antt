@@ -27,7 +27,7 @@ same-length : tie.Need-same-length
 same-length c = search needs
 
 returns : tie.Need-returns
-returns c = 
+returns c =
     let g = c .before .before .before .args in
     let h = c .before .before .before .pre in
     let e : g .width ≡ 1 = c .if1 .taken in
@@ -54,7 +54,7 @@ same-length-2 : tie.Need-same-length-2
 same-length-2 c = search needs
 
 returns-2 : tie.Need-returns-2
-returns-2 c = 
+returns-2 c =
     let g = c .before .before .before .before .args in
     let h = c .before .before .before .before .pre in
     let d = c .before .if1 .left in

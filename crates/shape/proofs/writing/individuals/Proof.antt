@@ -31,7 +31,7 @@ element-copy-out-individual-2 : tie.Need-element-copy-out-individual-2 Inv-loop 
 element-copy-out-individual-2 c = search needs
 
 individual-requires : tie.Need-individual-requires Inv-loop μ-loop
-individual-requires c κs = 
+individual-requires c κs =
     let g = c .before .before .before .before .before .before .args in
     let h = c .before .before .before .before .before .before .pre in
     let w = c .before .before .before .before .loop in
@@ -43,7 +43,7 @@ add-at : tie.Need-add-at Inv-loop μ-loop
 add-at c = search needs
 
 add-at-2 : tie.Need-add-at-2 Inv-loop μ-loop
-add-at-2 c = 
+add-at-2 c =
     let g = c .before .before .before .before .before .before .before .before .before .args in
     let h = c .before .before .before .before .before .before .before .before .before .pre in
     let w = c .before .before .before .before .before .before .before .loop in
@@ -59,7 +59,7 @@ loop-less : tie.Need-loop-less Inv-loop μ-loop
 loop-less c = search needs
 
 loop-again : tie.Need-loop-again Inv-loop μ-loop
-loop-again c = 
+loop-again c =
     let g = c .before .before .before .before .before .before .before .before .before .args in
     let h = c .before .before .before .before .before .before .before .before .before .pre in
     let w = c .before .before .before .before .before .before .before .loop in
@@ -70,16 +70,16 @@ loop-again c =
     let f = individual-bytes (g .width) (g .masks .now) (g .flags .now) in
     let l = individual-length (g .width) (g .masks .now) (g .flags .now) in
     let q =
-      c .before .before .individual .ensures
-      ∙ ap (λ (b : List ℕ). laid (w .out) (w .at) b) (individual-is (g .width) (g .masks .now) (g .flags .now) (w .a) _ _ refl refl)
-      ∙ each-next f (g .width + 1) l (g .out .now) 2 (w .at) (w .a) (w .out) (omega arith) y (w .inv .3) in
+    c .before .before .individual .ensures
+    ∙ ap (λ (b : List ℕ). laid (w .out) (w .at) b) (individual-is (g .width) (g .masks .now) (g .flags .now) (w .a) _ _ refl refl)
+    ∙ each-next f (g .width + 1) l (g .out .now) 2 (w .at) (w .a) (w .out) (omega arith) y (w .inv .3) in
     (omega arith, ap length q ∙ each-keeps f (g .width + 1) l (g .out .now) 2 (w .a) (omega arith), omega arith, q)
 
 same-length : tie.Need-same-length Inv-loop μ-loop
 same-length c = search needs
 
 returns : tie.Need-returns Inv-loop μ-loop
-returns c = 
+returns c =
     let g = c .before .before .before .args in
     let w = c .before .loop in
     let e : w .a ≡ g .k = (let x = w .inv .0 in let y = c .loop-test .left in omega arith) in

@@ -44,7 +44,7 @@ loop-less : tie.Need-loop-less Inv-loop μ-loop
 loop-less c = search needs
 
 loop-again : tie.Need-loop-again Inv-loop μ-loop
-loop-again c = 
+loop-again c =
     let g = c .before .before .before .before .before .args in
     let h = c .before .before .before .before .before .pre in
     let w = c .before .before .before .loop in
@@ -59,7 +59,7 @@ same-length : tie.Need-same-length Inv-loop μ-loop
 same-length c = search needs
 
 returns : tie.Need-returns Inv-loop μ-loop
-returns c = 
+returns c =
     let w = c .before .loop in
     let e : w .b ≡ c .before .before .before .args .k = (let x = w .inv .0 in let y = c .loop-test .left in omega arith) in
     rw e at (w .inv .2)

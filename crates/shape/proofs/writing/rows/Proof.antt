@@ -21,7 +21,7 @@ loop-holds : tie.Need-loop-holds Inv-loop μ-loop
 loop-holds c = (search needs, search needs, sym (place-start (c .before .args .place) (c .before .args .k)), laid-none _ _)
 
 row-requires : tie.Need-row-requires Inv-loop μ-loop
-row-requires c κs = 
+row-requires c κs =
     let g = c .before .before .before .before .args in
     let h = c .before .before .before .before .pre in
     let w = c .before .before .loop in
@@ -30,7 +30,7 @@ row-requires c κs =
     (omega arith, omega arith, omega arith)
 
 add-at : tie.Need-add-at Inv-loop μ-loop
-add-at c = 
+add-at c =
     let g = c .before .before .before .before .before .before .before .args in
     let h = c .before .before .before .before .before .before .before .pre in
     let w = c .before .before .before .before .before .loop in
@@ -46,7 +46,7 @@ loop-less : tie.Need-loop-less Inv-loop μ-loop
 loop-less c = search needs
 
 loop-again : tie.Need-loop-again Inv-loop μ-loop
-loop-again c = 
+loop-again c =
     let g = c .before .before .before .before .before .before .before .args in
     let h = c .before .before .before .before .before .before .before .pre in
     let w = c .before .before .before .before .before .loop in
@@ -61,7 +61,7 @@ same-length : tie.Need-same-length Inv-loop μ-loop
 same-length c = search needs
 
 returns : tie.Need-returns Inv-loop μ-loop
-returns c = 
+returns c =
     let g = c .before .before .before .args in
     let w = c .before .loop in
     let e : w .a ≡ g .k = (let x = w .inv .0 in let y = c .loop-test .left in omega arith) in

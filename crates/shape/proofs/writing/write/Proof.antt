@@ -17,7 +17,7 @@ slice-write-out-2 : tie.Need-slice-write-out-2
 slice-write-out-2 c = simp length-set (omega arith)
 
 individuals-requires : tie.Need-individuals-requires
-individuals-requires c κs = 
+individuals-requires c κs =
     let h = c .before .before .before .before .before .before .pre in
     (h .1, h .2, h .0, simp length-set (omega arith))
 
@@ -31,7 +31,7 @@ add-place-2 : tie.Need-add-place-2
 add-place-2 c = search needs
 
 rows-requires : tie.Need-rows-requires
-rows-requires c κs = 
+rows-requires c κs =
     let g = c .before .before .before .before .before .before .before .before .before .before .before .before .args in
     let h = c .before .before .before .before .before .before .before .before .before .before .before .before .pre in
     let s = g .t1 in
@@ -45,7 +45,7 @@ add-result : tie.Need-add-result
 add-result c = search needs
 
 same-length : tie.Need-same-length
-same-length c = 
+same-length c =
     let g = c .before .before .before .before .before .before .before .before .before .before .before .before .before .before .before .args in
     let h = c .before .before .before .before .before .before .before .before .before .before .before .before .before .before .before .pre in
     let s = g .t1 in
@@ -53,11 +53,10 @@ same-length c =
     ∙ written-keeps (s .masks) (s .flags) (s .links) (g .width) (g .point) (s .n) (g .out .now) (h .3)
 
 returns : tie.Need-returns
-returns c = 
+returns c =
     let g = c .before .before .before .before .before .before .before .before .before .before .before .before .before .before .before .args in
     let h = c .before .before .before .before .before .before .before .before .before .before .before .before .before .before .before .pre in
-    let s = g .t1 in
-    (
+    let s = g .t1 in (
       written-is (s .masks) (s .flags) (s .links) (g .width) (g .point) (s .n) (g .out .now) _ _ _ (c .before .before .before .before .before .before .before .before .before .before .before .before .before .short .ensures) (h .3) (c .before .before .before .before .before .before .before .before .individuals .ensures) (c .before .before .rows .ensures),
       written-length (s .masks) (s .flags) (s .links) (g .width) (g .point) (s .n),
     )
