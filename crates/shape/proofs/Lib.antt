@@ -14,3 +14,5 @@ pub mod Folded
 pub mod ByKeys
 pub mod Recorded
 pub mod Trims
+pub mod Laying
+pub mod Inverse

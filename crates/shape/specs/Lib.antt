@@ -3,3 +3,4 @@ pub mod Meaning
 pub mod Slots
 pub mod Keys
 pub mod Records
+pub mod Writing

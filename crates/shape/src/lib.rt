@@ -12,6 +12,7 @@ pub mod records;
 pub mod stepping;
 pub mod truth;
 pub mod variables;
+pub mod writing;
 
 ghost use mathlib.Core.Path.{_≡_};
 ghost use Prim.Native.Nat.{_<_};
