@@ -3,9 +3,10 @@ ghost use mathlib.Core.Path.{_≡_};
 ghost use lib.ListN.{length};
 ghost use Rattle.model.specs.Verdict.{answer, answer-of, verdict, buffer-after};
 ghost use Rattle.checker.specs.Meaning.{verdict-of, handed-place};
-
-use claim::fields::{Reading, Row};
-use crate::{Verdict, check};
+use crate::Verdict;
+use crate::check;
+use claim::fields::Reading;
+use claim::fields::Row;
 
 impl Verdict {
     // The paper's number, a and b.
@@ -13,11 +14,27 @@ impl Verdict {
         ensures { λ r. ⌜ answer (r .number) (r .a) (r .b) ≡ answer-of (verdict-of self) ⌝ }
     {
         match self {
-            Verdict::Accepted(shapes, open) => Row { number: 0, a: shapes, b: open },
+            Verdict::Accepted(shapes, open) => Row {
+                number: 0,
+                a: shapes,
+                b: open,
+            },
             Verdict::Unreadable(fault, place) => fault.row(place),
-            Verdict::NoEntry => Row { number: 7, a: 0, b: 0 },
-            Verdict::ShortBuffer(points) => Row { number: 9, a: points, b: 0 },
-            Verdict::Uncovered(shape, successor) => Row { number: 8, a: shape, b: successor },
+            Verdict::NoEntry => Row {
+                number: 7,
+                a: 0,
+                b: 0,
+            },
+            Verdict::ShortBuffer(points) => Row {
+                number: 9,
+                a: points,
+                b: 0,
+            },
+            Verdict::Uncovered(shape, successor) => Row {
+                number: 8,
+                a: shape,
+                b: successor,
+            },
         }
     }
 }
@@ -45,14 +62,23 @@ pub fn place(file: &[u8], number: usize) -> Part
     let claim = claim::scan(file);
     let reading = claim.reading;
     let Reading::Fine = reading else {
-        return Part { start: 0, length: 0 };
+        return Part {
+            start: 0,
+            length: 0,
+        };
     };
     if claim.shapes <= number {
-        return Part { start: 0, length: 0 };
+        return Part {
+            start: 0,
+            length: 0,
+        };
     }
     let start = claim.starts[number];
     let end = claim.starts[number + 1];
-    Part { start, length: end - start }
+    Part {
+        start,
+        length: end - start,
+    }
 }
 
 #[no_mangle]

@@ -1,7 +1,6 @@
 // Prints the answer on a claim file: `accept a b` and the bytes of the points in decimal on a line of their own, or
 // `refuse number a b`.
 ghost use Prim.Native.Nat.{_≤_};
-
 use libc::STDOUT_FILENO;
 
 fn say(text: &[u8]) {
