@@ -1,1 +1,2 @@
+-- What a format in code means.
 pub mod Meaning

@@ -1,3 +1,4 @@
+-- `claim::body` meets its contract. All that follows the version.
 use Prim.Native.Nat.{_-_}
 use mathlib.Core.Path.{refl}
 use borrow.Author.Needs.{needs}

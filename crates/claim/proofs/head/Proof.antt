@@ -1,3 +1,4 @@
+-- `claim::head` meets its contract. V and N.
 use mathlib.Core.Path.{ap₂, _∙_}
 use borrow.Author.Needs.{needs}
 use Rattle.model.specs.File.{_then_, head}

@@ -1,3 +1,4 @@
+-- `claim::marked` meets its contract.
 use mathlib.Core.Path.{refl}
 use borrow.Author.Needs.{needs}
 use Rattle.model.specs.File.{marked}

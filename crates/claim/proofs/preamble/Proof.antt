@@ -1,3 +1,4 @@
+-- `claim::preamble` meets its contract. Mark and version.
 use mathlib.Core.Path.{ap₂, _∙_}
 use borrow.Author.Needs.{needs}
 use Rattle.model.specs.File.{_then_, preamble}

@@ -1,3 +1,4 @@
+-- `claim::record` meets its contract. The part of the file that holds a record.
 use Prim.Native.Nat.{_+_, _-_}
 use mathlib.Core.Path.{refl, sym, ap, _∙_}
 use native.Mathlib.Numerals.{add-one}

@@ -1,3 +1,4 @@
+-- `claim::refused` meets its contract.
 use mathlib.Core.Path.{refl}
 use Rattle.claim.specs.Reads.{zeros}
 use Rattle.claim.proofs.refused.Statement.{statement}

@@ -1,3 +1,4 @@
+-- `claim::scan` meets its contract. Reads a file.
 use mathlib.Core.Path.{ap, _∙_}
 use borrow.Author.Needs.{needs}
 use Rattle.model.specs.Format.{format}

@@ -1,3 +1,4 @@
+-- `steps::lines` meets its contract. There are at most as many lines as bytes.
 use Prim.Native.Nat.{_-_, _≤_}
 use borrow.Author.Needs.{needs}
 use lib.ListN.{length}

@@ -1,3 +1,4 @@
+-- `steps::record_at` meets its contract. A record's k individuals and link values, from a place on; its point is 0.
 use Prim.Native.Nat.{_-_, _≤_}
 use native.Mathlib.Omega.{arith}
 use borrow.Author.Needs.{needs}

@@ -1,3 +1,4 @@
+-- `steps::shape_of` meets its contract. The shape of a record, or none if it is too large.
 use mathlib.Core.Path.{ap}
 use native.Mathlib.Omega.{arith}
 use borrow.Author.Needs.{needs}

@@ -1,3 +1,4 @@
+-- `steps::skipped` meets its contract. Where the next digit stands, or the end.
 use Prim.Native.Nat.{_-_, _≤_}
 use borrow.Author.Needs.{needs}
 use lib.ListN.{length}

@@ -1,3 +1,4 @@
+-- `vectors::all_named` meets its contract.
 use Prim.Native.Nat.{_-_}
 use borrow.Author.Needs.{needs}
 use Rattle.vectors.proofs.all_named.Statement.{statement}

@@ -1,3 +1,4 @@
+-- `vectors::prefix` meets its contract.
 use mathlib.Core.Path.{sym}
 use native.Mathlib.Omega.{arith}
 use borrow.Author.Needs.{needs}

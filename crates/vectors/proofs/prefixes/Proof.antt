@@ -1,3 +1,4 @@
+-- `vectors::prefixes` meets its contract.
 use Prim.Native.Nat.{_≤_, _-_}
 use borrow.Author.Needs.{needs}
 use Rattle.vectors.proofs.prefixes.Statement.{statement}

@@ -1,3 +1,4 @@
+-- `claim::fields::byte` meets its contract. The byte at a place; 0 beyond the end, as in the definitions.
 use native.Mathlib.Omega.{arith}
 use borrow.Author.Needs.{needs}
 use Rattle.claim.proofs.Numbers.{beyond}

@@ -1,3 +1,4 @@
+-- `claim::fields::field` meets its contract. A field of so many bytes at a place, which is right or not.
 use mathlib.Core.Path.{sym}
 use native.Mathlib.Omega.{arith}
 use borrow.Author.Needs.{needs}

@@ -1,3 +1,4 @@
+-- `claim::fields::number` meets its contract. A number of up to two bytes, low byte first.
 use Prim.Native.Nat.{_+_, _-_}
 use mathlib.Core.Path.{_≡_}
 use native.Mathlib.Omega.{arith}

@@ -1,3 +1,4 @@
+-- `claim::program::operand` meets its contract.
 use borrow.Author.Needs.{needs}
 use Rattle.claim.proofs.program.operand.Statement.{statement}
 use Rattle.claim.proofs.program.operand.Tie as tie

@@ -1,3 +1,4 @@
+-- `claim::program::operand_right` meets its contract. A field of a point record: below its bound if it is used, else 0.
 use mathlib.Core.Path.{refl}
 use Rattle.claim.proofs.program.operand_right.Statement.{statement}
 use Rattle.claim.proofs.program.operand_right.Tie as tie

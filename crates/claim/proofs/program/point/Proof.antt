@@ -1,3 +1,4 @@
+-- `claim::program::point` meets its contract. A point record: op, x, y, s1 and s2.
 use mathlib.Core.Path.{ap₂, _∙_}
 use borrow.Author.Needs.{needs}
 use Rattle.model.specs.File.{_then_, point-record}

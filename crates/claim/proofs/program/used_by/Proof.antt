@@ -1,3 +1,4 @@
+-- `claim::program::used_by` meets its contract. Ops 2 to 7 have y where they are odd; so has 9.
 use Prim.Native.Nat.{_-_, _≤_}
 use mathlib.Core.Path.{_≡_, refl}
 use native.Mathlib.Omega.{arith}

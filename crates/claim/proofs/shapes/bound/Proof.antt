@@ -1,3 +1,4 @@
+-- `claim::shapes::bound` meets its contract. 2 to the number of variables: each mask is below it.
 use borrow.Author.Needs.{needs}
 use Rattle.claim.proofs.Numbers.{shifted}
 use Rattle.claim.proofs.shapes.bound.Statement.{statement}

@@ -1,3 +1,5 @@
+-- `claim::shapes::flags_right` meets its contract. Flags are in their range, no variable is on a summary, and the key
+-- is at least the floor.
 use mathlib.Core.Path.{refl}
 use borrow.Author.Needs.{needs}
 use Rattle.claim.proofs.shapes.flags_right.Statement.{statement}

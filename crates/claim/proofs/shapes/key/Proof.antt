@@ -1,3 +1,4 @@
+-- `claim::shapes::key` meets its contract.
 use mathlib.Core.Path.{refl}
 use native.Mathlib.Omega.{arith}
 use Rattle.claim.proofs.Numbers.{bit-times}

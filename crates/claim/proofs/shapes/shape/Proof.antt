@@ -1,3 +1,4 @@
+-- `claim::shapes::shape` meets its contract. A shape record, after one whose point is least.
 use Prim.Native.Nat.{_+_, _*_, _-_, _^_, _≤_, _<_}
 use native.Mathlib.Omega.{arith}
 use borrow.Author.Needs.{needs}

@@ -1,3 +1,4 @@
+-- `shape::Shape::empty` meets its contract. No individuals.
 use mathlib.Core.Path.{refl}
 use Rattle.model.specs.Step.{edge}
 use Rattle.shape.proofs.Entries.{grid-zeros, made-eq, mask-zeros, shared-zeros, summary-zeros}

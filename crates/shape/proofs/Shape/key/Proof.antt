@@ -1,3 +1,4 @@
+-- `shape::Shape::key` meets its contract. The individual's key: its shared bit weighs more than any mask.
 use mathlib.Core.Path.{_∙_}
 use borrow.Author.Needs.{needs}
 use Rattle.shape.proofs.Entries.{key-is}

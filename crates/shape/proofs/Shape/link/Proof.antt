@@ -1,3 +1,4 @@
+-- `shape::Shape::link` meets its contract. The link from a to b.
 use native.Mathlib.Omega.{arith}
 use borrow.Author.Needs.{needs}
 use Rattle.shape.proofs.Grid.{grid-at}

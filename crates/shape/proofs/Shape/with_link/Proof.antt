@@ -1,3 +1,4 @@
+-- `shape::Shape::with_link` meets its contract. The link from a to b becomes v.
 use mathlib.Core.Path.{_≡_, refl}
 use native.Mathlib.Omega.{arith}
 use borrow.Author.Needs.{needs}

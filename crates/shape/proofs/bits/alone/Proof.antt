@@ -1,3 +1,4 @@
+-- `shape::bits::alone` meets its contract. The mask of x alone.
 use borrow.Author.Needs.{needs}
 use Rattle.shape.proofs.MaskBits.{one-bit}
 use Rattle.shape.proofs.bits.alone.Statement.{statement}

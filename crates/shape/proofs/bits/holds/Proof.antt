@@ -1,3 +1,4 @@
+-- `shape::bits::holds` meets its contract. x is in the mask.
 use borrow.Author.Needs.{needs}
 use Rattle.shape.proofs.MaskBits.{bit-is}
 use Rattle.shape.proofs.bits.holds.Statement.{statement}

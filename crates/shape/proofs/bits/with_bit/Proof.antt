@@ -1,3 +1,4 @@
+-- `shape::bits::with_bit` meets its contract. The mask with x, or without it.
 use mathlib.Core.Path.{_∙_, sym}
 use native.Mathlib.Omega.{arith}
 use borrow.Author.Needs.{needs}

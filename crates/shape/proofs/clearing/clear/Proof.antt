@@ -1,3 +1,5 @@
+-- `shape::clearing::clear` meets its contract. The result of clearing u at place j: from the result j / 2 of opening t
+-- unshared, then t still shared.
 use Prim.Native.Nat.{_%_}
 use mathlib.Core.Path.{_∙_, ap}
 use borrow.Author.Needs.{needs}

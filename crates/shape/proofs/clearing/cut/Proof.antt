@@ -1,3 +1,4 @@
+-- `shape::clearing::cut` meets its contract. The link from u to t is gone: t unshared, or `still` shared.
 use Prim.Native.Nat.{_%_, _*_, _+_, ℕ}
 use mathlib.Core.Bool.{not}
 use mathlib.Core.Logic.{_≢_}

@@ -1,3 +1,4 @@
+-- `shape::clearing::unlink` meets its contract. What comes of one result of opening.
 use mathlib.Core.Bool.{not}
 use mathlib.Core.Path.{_∙_, _≡_, ap, sym}
 use native.Mathlib.Omega.{arith}

@@ -1,3 +1,4 @@
+-- `shape::covering::agrees` meets its contract. The same key, and a summary only if the other is one.
 use Prim.Native.Nat.{_%_, _/_}
 use mathlib.Core.Bool.{_||_, not}
 use mathlib.Core.Path.{refl, sym}

@@ -1,3 +1,4 @@
+-- `shape::covering::covered` meets its contract. The shape is covered by the record's.
 use mathlib.Core.Bool.{Bool, _&&_}
 use mathlib.Core.Path.{_∙_, _≡_, ap, sym}
 use native.Mathlib.Omega.{arith}

@@ -1,3 +1,4 @@
+-- `shape::covering::links_covered` meets its contract.
 use Prim.Native.Nat.{_*_, _+_, _-_, _≤_, ℕ}
 use mathlib.Core.Bool.{true}
 use mathlib.Core.Path.{_∙_, _≡_, ap, refl, sym}

@@ -1,3 +1,4 @@
+-- `shape::covering::row_covered` meets its contract. The links of a lie under those from a place on.
 use Prim.Native.Nat.{_+_, _-_, _≤_, ℕ}
 use mathlib.Core.Bool.{true}
 use mathlib.Core.Path.{_∙_, _≡_, ap, refl, sym}

@@ -1,3 +1,4 @@
+-- `shape::linking::link` meets its contract. What comes of one result of clearing.
 use mathlib.Core.Bool.{not}
 use mathlib.Core.Path.{_∙_, _≡_, ap, sym}
 use native.Mathlib.Omega.{arith}

@@ -1,3 +1,5 @@
+-- `shape::linking::store` meets its contract. The result at place j of storing y's place into the link of u: from the
+-- result j / 2 of clearing first and second.
 use Prim.Native.Nat.{_%_}
 use mathlib.Core.Path.{_∙_, ap}
 use borrow.Author.Needs.{needs}

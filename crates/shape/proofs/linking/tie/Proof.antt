@@ -1,3 +1,5 @@
+-- `shape::linking::tie` meets its contract. The link from u to w becomes 1: the first result, or the `second`, in which
+-- w becomes shared.
 use Prim.Native.Nat.{ℕ}
 use mathlib.Core.Bool.{not}
 use mathlib.Core.Path.{_∙_, _≡_, ap, ap₂, refl}

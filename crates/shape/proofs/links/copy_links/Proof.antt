@@ -1,3 +1,4 @@
+-- `shape::links::copy_links` meets its contract. The individual n gets the links of v, to itself too.
 use Prim.Native.Nat.{_-_, _≤_, ℕ}
 use mathlib.Core.Path.{_∙_, ap, refl, sym}
 use native.Mathlib.Omega.{arith}

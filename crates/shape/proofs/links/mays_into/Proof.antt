@@ -1,3 +1,4 @@
+-- `shape::links::mays_into` meets its contract. How many links into t are nonzero.
 use Prim.Native.Nat.{_-_, _≤_, ℕ}
 use mathlib.Core.Bool.{Bool, cond}
 use mathlib.Core.Path.{_∙_, _≡_, ap, refl}

@@ -1,3 +1,4 @@
+-- `shape::links::ones_into` meets its contract. How many links into t are 1.
 use Prim.Native.Nat.{_-_, _≤_, ℕ}
 use mathlib.Core.Bool.{Bool, cond}
 use mathlib.Core.Path.{_∙_, _≡_, ap, refl}

@@ -1,3 +1,4 @@
+-- `shape::links::other_must` meets its contract.
 use borrow.Author.Needs.{needs}
 use borrow.Author.Tests.{eq-eqb, ne-eqb}
 use Rattle.shape.proofs.links.other_must.Statement.{statement}

@@ -1,3 +1,4 @@
+-- `shape::links::some_into` meets its contract. Some link into t is nonzero.
 use Prim.Native.Nat.{_-_, _≤_, ℕ}
 use mathlib.Core.Bool.{_&&_, false, not}
 use mathlib.Core.Path.{_∙_, _≡_, ap, refl, sym}

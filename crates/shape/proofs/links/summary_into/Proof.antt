@@ -1,3 +1,4 @@
+-- `shape::links::summary_into` meets its contract. A summary has a nonzero link into t.
 use Prim.Native.Nat.{_-_, _≤_, ℕ}
 use mathlib.Core.Bool.{Bool, _&&_, false}
 use mathlib.Core.Path.{_∙_, _≡_, ap₂, refl, sym}

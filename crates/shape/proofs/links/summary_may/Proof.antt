@@ -1,3 +1,4 @@
+-- `shape::links::summary_may` meets its contract.
 use borrow.Author.Needs.{needs}
 use borrow.Author.Tests.{eq-eqb, ne-eqb}
 use Rattle.shape.proofs.links.summary_may.Statement.{statement}

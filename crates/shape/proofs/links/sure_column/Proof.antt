@@ -1,3 +1,4 @@
+-- `shape::links::sure_column` meets its contract. Every 1/2 into t from another than u becomes 0.
 use Prim.Native.Nat.{_-_, _≤_}
 use mathlib.Core.Path.{_∙_, ap, refl, sym}
 use native.Mathlib.Omega.{arith}

@@ -1,3 +1,5 @@
+-- `shape::links::sure_value` meets its contract. What is left of the value from a when every 1/2 from another than u
+-- becomes 0.
 use Rattle.shape.proofs.Truths.{sure-one, sure-other, sure-own}
 use Rattle.shape.proofs.links.sure_value.Statement.{statement}
 use Rattle.shape.proofs.links.sure_value.Tie as tie

@@ -1,3 +1,4 @@
+-- `shape::links::zero_row` meets its contract. All links of u become 0.
 use Prim.Native.Nat.{_-_, _≤_}
 use mathlib.Core.Path.{refl, sym}
 use native.Mathlib.Omega.{arith}

@@ -1,3 +1,4 @@
+-- `shape::opening::divided` meets its contract. A second individual like v, the last one.
 use mathlib.Core.Path.{_∙_, _≡_, sym}
 use native.Mathlib.Numerals.{add-one}
 use native.Mathlib.Omega.{arith}

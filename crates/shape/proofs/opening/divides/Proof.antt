@@ -1,3 +1,4 @@
+-- `shape::opening::divides` meets its contract. A summary with link 1/2 is divided too.
 use borrow.Author.Needs.{needs}
 use borrow.Author.Tests.{eq-eqb, ne-eqb}
 use Rattle.shape.proofs.opening.divides.Statement.{statement}

@@ -1,3 +1,4 @@
+-- `shape::opening::no_target` meets its contract. All links of u become 0; given if none is 1.
 use Prim.Native.Nat.{ℕ}
 use mathlib.Core.Bool.{not}
 use mathlib.Core.Path.{_∙_, _≡_, ap, ap₂}

@@ -1,3 +1,5 @@
+-- `shape::opening::open` meets its contract. The result of opening u at place j: 0 without target, 1 + 2 v with v
+-- whole, 2 + 2 v with v divided.
 use Prim.Native.Nat.{_%_, _+_, _-_, _/_}
 use mathlib.Core.Bool.{Bool, _&&_, false}
 use mathlib.Core.Path.{_∙_, _≡_, ap, ap₂, sym}

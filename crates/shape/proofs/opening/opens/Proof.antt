@@ -1,3 +1,5 @@
+-- `shape::opening::opens` meets its contract. Whether place j can have a result: a look that costs no copy of the
+-- shape.
 use Prim.Native.Nat.{_%_, _+_, _-_, _/_, ℕ}
 use mathlib.Core.Bool.{Bool, _&&_, false, not, true}
 use mathlib.Core.Path.{_∙_, _≡_, ap, ap₂, sym}

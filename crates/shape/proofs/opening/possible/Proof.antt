@@ -1,3 +1,4 @@
+-- `shape::opening::possible` meets its contract. v may be the target.
 use Prim.Native.Nat.{ℕ}
 use mathlib.Core.Bool.{Bool, _&&_, not}
 use mathlib.Core.Path.{_∙_, ap, sym}

@@ -1,3 +1,4 @@
+-- `shape::opening::settle` meets its contract. The result with target t, if any.
 use mathlib.Core.Path.{_∙_, _≡_}
 use native.Mathlib.Omega.{arith}
 use borrow.Author.Needs.{needs}

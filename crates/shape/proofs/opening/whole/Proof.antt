@@ -1,3 +1,4 @@
+-- `shape::opening::whole` meets its contract. v is no summary now, its link from u is 1, other links of u are 0.
 use Prim.Native.Nat.{_%_, _/_}
 use mathlib.Core.Path.{_∙_, _≡_, ap, refl, sym}
 use native.Mathlib.Omega.{arith}

@@ -1,3 +1,4 @@
+-- `shape::records::links_of` meets its contract. The k times k link values that stand from a place on.
 use Prim.Native.Nat.{_*_, _+_, _-_, _≤_, ℕ}
 use mathlib.Core.Path.{_≡_, ap, refl, sym}
 use native.Mathlib.Omega.{arith}

@@ -1,3 +1,4 @@
+-- `shape::records::mask_at` meets its contract. A mask of one byte or two, low byte first.
 use Prim.Native.Nat.{_*_, _+_, ℕ}
 use mathlib.Core.Path.{_≡_, ap₂}
 use native.Mathlib.Omega.{arith}

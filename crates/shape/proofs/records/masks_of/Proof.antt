@@ -1,3 +1,5 @@
+-- `shape::records::masks_of` meets its contract. The masks of the k individuals that stand from byte 2 on, each with
+-- its flags after it.
 use Prim.Native.Nat.{_*_, _+_, _-_, _≤_, ℕ}
 use mathlib.Core.Bool.{cond}
 use mathlib.Core.Path.{_∙_, _≡_, ap, refl, sym}

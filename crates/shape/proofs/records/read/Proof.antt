@@ -1,3 +1,4 @@
+-- `shape::records::read` meets its contract. The shape of a record, the point's byte first.
 use Prim.Native.Nat.{_%_, _*_, _+_, _/_, ℕ}
 use mathlib.Core.Bool.{_&&_, cond}
 use mathlib.Core.Path.{_∙_, _≡_, ap}

@@ -1,3 +1,4 @@
+-- `shape::stepping::assigned` meets its contract. Ops 2 and 3: the variable moves, by its value before the step.
 use Prim.Native.Nat.{ℕ}
 use mathlib.Core.Bool.{Bool, cond}
 use mathlib.Core.Path.{_∙_, ap, sym}

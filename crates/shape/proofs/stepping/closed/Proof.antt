@@ -1,3 +1,5 @@
+-- `shape::stepping::closed` meets its contract. Whether ops 5 to 7 surely have no result at place j: a look that costs
+-- no copy of the shape.
 use Prim.Native.Nat.{_/_, _<_, ℕ}
 use mathlib.Core.Bool.{cond, not}
 use mathlib.Core.Path.{_∙_, _≡_, ap}

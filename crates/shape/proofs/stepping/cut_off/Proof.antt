@@ -1,3 +1,4 @@
+-- `shape::stepping::cut_off` meets its contract. Op 6: x's individual is cleared.
 use Prim.Native.Nat.{_<_, ℕ}
 use mathlib.Core.Path.{_∙_, _≡_, ap, sym}
 use native.Mathlib.Omega.{arith}

@@ -1,3 +1,4 @@
+-- `shape::stepping::decided` meets its contract. Ops 8 and 9: what the shape decides.
 use mathlib.Core.Bool.{Bool, cond}
 use mathlib.Core.Path.{_∙_, ap, ap₂, sym}
 use borrow.Author.Needs.{needs}

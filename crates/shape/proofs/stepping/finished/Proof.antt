@@ -1,3 +1,4 @@
+-- `shape::stepping::finished` meets its contract. Folding ends every step.
 use mathlib.Core.List.{[], _∷_}
 use mathlib.Core.Path.{_∙_, ap}
 use native.Mathlib.Omega.{arith}

@@ -1,3 +1,4 @@
+-- `shape::stepping::gone_through` meets its contract. The variable that is gone through, and the place of its opening.
 use borrow.Author.Tests.{eq-eqb, ne-eqb}
 use Rattle.shape.proofs.stepping.gone_through.Statement.{statement}
 use Rattle.shape.proofs.stepping.gone_through.Tie as tie

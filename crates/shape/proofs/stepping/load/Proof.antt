@@ -1,3 +1,4 @@
+-- `shape::stepping::load` meets its contract. Op 5: x moves to the target of opening y's individual.
 use Prim.Native.Nat.{_<_, ℕ}
 use mathlib.Core.List.{map}
 use mathlib.Core.Path.{_∙_, _≡_, ap, sym}

@@ -1,3 +1,4 @@
+-- `shape::stepping::opening_place` meets its contract.
 use borrow.Author.Tests.{eq-eqb, ne-eqb}
 use Rattle.shape.proofs.stepping.opening_place.Statement.{statement}
 use Rattle.shape.proofs.stepping.opening_place.Tie as tie

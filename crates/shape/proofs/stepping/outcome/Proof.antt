@@ -1,3 +1,4 @@
+-- `shape::stepping::outcome` meets its contract. The outcome of a statement at place j.
 use Prim.Native.Nat.{ℕ}
 use mathlib.Core.Bool.{Bool, cond}
 use mathlib.Core.List.{List, [], _∷_, map}

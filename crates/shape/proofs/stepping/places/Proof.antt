@@ -1,3 +1,4 @@
+-- `shape::stepping::places` meets its contract. How many places a statement has for a shape of n individuals.
 use native.Mathlib.Omega.{arith}
 use borrow.Author.Needs.{needs}
 use borrow.Author.Tests.{le-ltb, lt-ltb, ne-eqb}

@@ -1,3 +1,4 @@
+-- `shape::stepping::same_place` meets its contract. Null equals null.
 use mathlib.Core.Path.{_≡_}
 use borrow.Author.Needs.{needs}
 use Rattle.shape.specs.declared.Place.the-variants.{At}

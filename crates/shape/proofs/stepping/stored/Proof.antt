@@ -1,3 +1,4 @@
+-- `shape::stepping::stored` meets its contract. Op 7: x's individual is cleared, then linked to y's.
 use Prim.Native.Nat.{_<_, ℕ}
 use mathlib.Core.Path.{_∙_, _≡_, ap, sym}
 use native.Mathlib.Omega.{arith}

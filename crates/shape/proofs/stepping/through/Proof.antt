@@ -1,3 +1,4 @@
+-- `shape::stepping::through` meets its contract. Ops 5 to 7, which go through a link.
 use mathlib.Core.Path.{_∙_, _≡_}
 use native.Mathlib.Omega.{arith}
 use borrow.Author.Tests.{eq-eqb, ne-eqb}

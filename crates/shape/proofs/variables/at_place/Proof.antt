@@ -1,3 +1,4 @@
+-- `shape::variables::at_place` meets its contract.
 use mathlib.Core.Path.{_≡_}
 use borrow.Author.Needs.{needs}
 use Rattle.shape.specs.declared.Place.the-variants.{At}

@@ -1,3 +1,4 @@
+-- `shape::variables::first_with` meets its contract. The first of n masks that has x.
 use Prim.Native.Nat.{_-_, _≤_, ℕ}
 use mathlib.Core.Bool.{false}
 use mathlib.Core.Path.{_∙_, _≡_, ap, refl, sym}

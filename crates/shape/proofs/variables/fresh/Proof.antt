@@ -1,3 +1,4 @@
+-- `shape::variables::fresh` meets its contract. A new individual that holds x alone.
 use Prim.Native.Nat.{ℕ}
 use mathlib.Core.Bool.{cond, false}
 use mathlib.Core.Path.{_∙_, _≡_, ap, ap₂, refl}

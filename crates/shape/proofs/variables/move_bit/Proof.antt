@@ -1,3 +1,4 @@
+-- `shape::variables::move_bit` meets its contract. x is in the mask at p alone.
 use Prim.Native.Nat.{_-_, _≤_, ℕ}
 use mathlib.Core.Path.{_∙_, ap₂, refl}
 use native.Mathlib.Omega.{arith}

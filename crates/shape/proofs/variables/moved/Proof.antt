@@ -1,3 +1,4 @@
+-- `shape::variables::moved` meets its contract. x moves to p.
 use mathlib.Core.Path.{_≡_, refl}
 use native.Mathlib.Omega.{arith}
 use borrow.Author.Needs.{needs}

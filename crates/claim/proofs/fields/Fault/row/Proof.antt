@@ -1,3 +1,4 @@
+-- `claim::fields::Fault::row` meets its contract. The paper's number, a and b for a fault at a place.
 use mathlib.Core.Path.{refl}
 use borrow.Author.Needs.{needs}
 use Rattle.claim.proofs.fields.Fault.row.Statement.{statement}

@@ -1,3 +1,4 @@
+-- `claim::fields::Reading::then` meets its contract. What is wrong first decides.
 use mathlib.Core.Path.{refl, ap}
 use borrow.Author.Needs.{needs}
 use Rattle.claim.specs.Answers.{reading-of}

@@ -1,3 +1,4 @@
+-- `shape::truth::Truth::half` meets its contract.
 use Rattle.shape.proofs.Truths.{half-is}
 use Rattle.shape.proofs.truth.Truth.half.Statement.{statement}
 use Rattle.shape.proofs.truth.Truth.half.Tie as tie

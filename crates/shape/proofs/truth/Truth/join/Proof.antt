@@ -1,3 +1,4 @@
+-- `shape::truth::Truth::join` meets its contract. The common value, or 1/2.
 use Rattle.shape.proofs.Truths.{join-apart, join-self}
 use Rattle.shape.proofs.truth.Truth.join.Statement.{statement}
 use Rattle.shape.proofs.truth.Truth.join.Tie as tie

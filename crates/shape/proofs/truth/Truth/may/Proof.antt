@@ -1,3 +1,4 @@
+-- `shape::truth::Truth::may` meets its contract. A nonzero link.
 use Rattle.shape.proofs.Truths.{may-is}
 use Rattle.shape.proofs.truth.Truth.may.Statement.{statement}
 use Rattle.shape.proofs.truth.Truth.may.Tie as tie

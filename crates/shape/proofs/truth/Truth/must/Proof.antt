@@ -1,3 +1,4 @@
+-- `shape::truth::Truth::must` meets its contract. Link 1.
 use Rattle.shape.proofs.Truths.{must-is}
 use Rattle.shape.proofs.truth.Truth.must.Statement.{statement}
 use Rattle.shape.proofs.truth.Truth.must.Tie as tie

@@ -1,3 +1,4 @@
+-- `shape::truth::Truth::under` meets its contract. It is the other value, or that is 1/2.
 use Rattle.shape.proofs.Truths.{under-apart, under-self}
 use Rattle.shape.proofs.truth.Truth.under.Statement.{statement}
 use Rattle.shape.proofs.truth.Truth.under.Tie as tie
