@@ -212,6 +212,20 @@ module _ (w p : ℕ) (W : Shape) (t : List ℕ) where
       ∙ truth-code (W .n .link a b))
       (λ l. refl))))
 
+  -- the reader takes it
+  pub written-readable : Within w W → W .size ≤ edge → Readable (record-of (sized w) p W ++ t) w
+  written-readable q h = record {
+    some = q .some;
+    narrow = q .narrow;
+    size = h;
+    whole =
+        let x = each-length block (w + 1) block-length (W .size) in
+        let y = each-length line (W .size) line-length (W .size) in
+        let z = length-append (each (W .size) block) (each (W .size) line) in
+        let v = length-append (each (W .size) block ++ each (W .size) line) t in
+        omega arith;
+  }
+
 pub read-record : (w p : ℕ) (W : Shape) → Within w W → shape-of (sized w) (record-of (sized w) p W) ≡ trimmed W
 read-record w p W q =
     ap (shape-of (sized w)) (sym (append-nil (record-of (sized w) p W))) ∙ read-written w p W [] q
