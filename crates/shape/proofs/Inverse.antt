@@ -13,9 +13,12 @@ use borrow.Author.Tests.{ltb-true, lt-ltb}
 use Rattle.model.specs.Truth.{Truth, 𝟘, 𝟙, ½, truth, code}
 use Rattle.model.specs.Finite.{each}
 use Rattle.model.specs.Shape.{Shape}
-use Rattle.model.specs.File.{byte, number, size-at, individuals-at, links-at, past, flags}
-use Rattle.model.specs.Claim.{bytes, flags-of, record-of, shape-of}
+use Rattle.model.specs.Step.{edge}
+use Rattle.model.specs.Format.{Format, version-1}
+use Rattle.model.specs.File.{fine, byte, number, size-at, individuals-at, links-at, past, flags, shapes, start, body, reading, part}
+use Rattle.model.specs.Claim.{bytes, flags-of, record-of, shape-of, claim-of, claim}
 use Rattle.model.proofs.Bools.{top-or-below, and-left, and-right, cond-cong}
+use Rattle.model.proofs.Accepted.{part-ends, part-length, part-byte, part-exact, size-low, flags-few, link-value-low, vars-low, starts-inside, body-fine}
 use Rattle.shape.specs.Meaning.{trimmed}
 use Rattle.shape.specs.Records.{sized, Readable}
 use Rattle.shape.proofs.Entries.{made-eq}
@@ -209,6 +212,20 @@ module _ (w p : ℕ) (W : Shape) (t : List ℕ) where
       ∙ truth-code (W .n .link a b))
       (λ l. refl))))
 
+  -- the reader takes it
+  pub written-readable : Within w W → W .size ≤ edge → Readable (record-of (sized w) p W ++ t) w
+  written-readable q h = record {
+    some = q .some;
+    narrow = q .narrow;
+    size = h;
+    whole =
+        let x = each-length block (w + 1) block-length (W .size) in
+        let y = each-length line (W .size) line-length (W .size) in
+        let z = length-append (each (W .size) block) (each (W .size) line) in
+        let v = length-append (each (W .size) block ++ each (W .size) line) t in
+        omega arith;
+  }
+
 pub read-record : (w p : ℕ) (W : Shape) → Within w W → shape-of (sized w) (record-of (sized w) p W) ≡ trimmed W
 read-record w p W q =
     ap (shape-of (sized w)) (sym (append-nil (record-of (sized w) p W))) ∙ read-written w p W [] q
@@ -220,43 +237,43 @@ take-one l j h = ap (take 1) (drop-cons l j 0 h)
 
 -- the record of p, k and a rest that is as long as the record says
 module _ (w p k : ℕ) (rest : List ℕ) (q : Regular w (p ∷ k ∷ rest)) where
-  abbrev part : List ℕ
-  part = p ∷ k ∷ rest
+  abbrev one : List ℕ
+  one = p ∷ k ∷ rest
 
   abbrev held : Shape
-  held = shape-of (sized w) part
+  held = shape-of (sized w) one
 
   rest-length : length rest ≡ (w + 1) * k + k * k
   rest-length = let z = q .exact in omega arith
 
-  in-rest : (x : ℕ) → getD rest x 0 ≡ byte part (2 + x)
+  in-rest : (x : ℕ) → getD rest x 0 ≡ byte one (2 + x)
   in-rest x = sym (getD-append-add (p ∷ k ∷ []) rest x 0)
 
-  flags-again : (a : ℕ) → a < k → flags-of held a ≡ byte part (2 + (w + 1) * a + w)
+  flags-again : (a : ℕ) → a < k → flags-of held a ≡ byte one (2 + (w + 1) * a + w)
   flags-again a h =
       rw (lt-ltb a k h)
       (let z = q .flagged a h in
-      let y = flags-are (byte part (2 + (w + 1) * a + w)) in
-      sym y ∙ (let x : byte part (2 + (w + 1) * a + w) % 4 ≡ byte part (2 + (w + 1) * a + w) = omega arith in x))
+      let y = flags-are (byte one (2 + (w + 1) * a + w)) in
+      sym y ∙ (let x : byte one (2 + (w + 1) * a + w) % 4 ≡ byte one (2 + (w + 1) * a + w) = omega arith in x))
 
-  mask-again : (a : ℕ) → a < k → held .mask a ≡ number w part (2 + (w + 1) * a)
+  mask-again : (a : ℕ) → a < k → held .mask a ≡ number w one (2 + (w + 1) * a)
   mask-again a h = rw (lt-ltb a k h)
 
-  link-again : (a b : ℕ) → a < k → b < k → code (held .n .link a b) ≡ byte part (2 + (w + 1) * k + k * a + b)
+  link-again : (a b : ℕ) → a < k → b < k → code (held .n .link a b) ≡ byte one (2 + (w + 1) * k + k * a + b)
   link-again a b h l = rw (lt-ltb a k h, lt-ltb b k l) (code-truth _ (q .linked a b h l))
 
   -- byte j of individual a
-  block-byte : (a j : ℕ) → a < k → j < w + 1 → getD (block w p held [] a) j 0 ≡ byte part (2 + (w + 1) * a + j)
+  block-byte : (a j : ℕ) → a < k → j < w + 1 → getD (block w p held [] a) j 0 ≡ byte one (2 + (w + 1) * a + j)
   block-byte a j h l =
       top-or-below w j (let z : j < suc w = omega arith in z)
       (λ e.
       ap (λ (x : ℕ). getD (block w p held [] a) x 0) e
       ∙ getD-at (bytes w (held .mask a)) (flags-of held a) [] 0 w (bytes-length w (held .mask a))
-      ∙ flags-again a h ∙ ap (λ (x : ℕ). byte part (2 + (w + 1) * a + x)) (sym e))
+      ∙ flags-again a h ∙ ap (λ (x : ℕ). byte one (2 + (w + 1) * a + x)) (sym e))
       (λ m.
       List·getD-append (bytes w (held .mask a)) (flags-of held a ∷ []) 0 j (let z = bytes-length w (held .mask a) in omega arith)
       ∙ ap (λ (v : ℕ). getD (bytes w v) j 0) (mask-again a h)
-      ∙ bytes-read w (q .readable .some) (q .readable .narrow) part (2 + (w + 1) * a)
+      ∙ bytes-read w (q .readable .some) (q .readable .narrow) one (2 + (w + 1) * a)
       (λ i n. q .low (2 + (w + 1) * a + i) (let z = step-fits (w + 1) a k h in let y = rest-length in omega arith))
       j m)
 
@@ -274,7 +291,7 @@ module _ (w p k : ℕ) (rest : List ℕ) (q : Regular w (p ∷ k ∷ rest)) wher
       (λ j l.
       let m : j < w + 1 = (let z = block-length w p held [] a in omega arith) in
       block-byte a j h m
-      ∙ ap (byte part) (let z : 2 + (w + 1) * a + j ≡ 2 + ((w + 1) * a + j) = omega arith in z)
+      ∙ ap (byte one) (let z : 2 + (w + 1) * a + j ≡ 2 + ((w + 1) * a + j) = omega arith in z)
       ∙ sym (in-rest ((w + 1) * a + j))
       ∙ sym (getD-drop ((w + 1) * a) rest j 0)
       ∙ sym (getD-take (w + 1) (drop ((w + 1) * a) rest) j 0 m))
@@ -291,7 +308,7 @@ module _ (w p k : ℕ) (rest : List ℕ) (q : Regular w (p ∷ k ∷ rest)) wher
       (λ b l.
       ap (λ (x : ℕ). x ∷ [])
       (link-again a b h l
-      ∙ ap (byte part) (let z : 2 + (w + 1) * k + k * a + b ≡ 2 + ((w + 1) * k + (k * a + b)) = omega arith in z)
+      ∙ ap (byte one) (let z : 2 + (w + 1) * k + k * a + b ≡ 2 + ((w + 1) * k + (k * a + b)) = omega arith in z)
       ∙ sym (in-rest ((w + 1) * k + (k * a + b)))
       ∙ sym (getD-drop ((w + 1) * k) rest (k * a + b) 0)
       ∙ sym (getD-drop (k * a) cells b 0))
@@ -303,7 +320,7 @@ module _ (w p k : ℕ) (rest : List ℕ) (q : Regular w (p ∷ k ∷ rest)) wher
       ∙ ap (λ (x : ℕ). take 1 (drop x (drop (k * a) cells))) (let z : b ≡ 1 * b = omega arith in z))
       ∙ ap (λ (x : ℕ). take x (drop (k * a) cells)) (let z : 1 * k ≡ k = omega arith in z)
 
-  again : record-of (sized w) p held ≡ part
+  again : record-of (sized w) p held ≡ one
   again =
       ap (λ (l : List ℕ). p ∷ k ∷ l)
       (ap₂ _++_
@@ -316,3 +333,81 @@ pub write-read : (w : ℕ) (r : List ℕ) → Regular w r → record-of (sized w
 write-read w [] q = absurd (let z = q .exact in omega arith)
 write-read w (p ∷ []) q = absurd (let z = q .exact in omega arith)
 write-read w (p ∷ k ∷ rest) q = again w p k rest q
+
+-- ---- a shape that is read is one that can be written
+
+number-low : (w : ℕ) → 1 ≤ w → w ≤ 2 → (r : List ℕ) (x : ℕ) → ((j : ℕ) → j < w → byte r (x + j) < 256) → number w r x < 256 ^ w
+number-low zero h k r x f = absurd (omega arith)
+number-low (suc zero) h k r x f =
+    let y = f 0 (omega arith) in
+    let e : byte r x ≡ byte r (x + 0) = ap (byte r) (let z : x ≡ x + 0 = omega arith in z) in
+    omega arith
+number-low (suc (suc zero)) h k r x f =
+    let y = f 0 (omega arith) in
+    let v = f 1 (omega arith) in
+    let e : byte r x ≡ byte r (x + 0) = ap (byte r) (let z : x ≡ x + 0 = omega arith in z) in
+    omega arith
+number-low (suc (suc (suc w))) h k r x f = absurd (omega arith)
+
+pub regular-within : (w : ℕ) (r : List ℕ) → Regular w r → Within w (shape-of (sized w) r)
+regular-within w r q = record {
+  some = q .readable .some;
+  narrow = q .readable .narrow;
+  masks = λ a h.
+      rw (lt-ltb a (size-at r 0) h)
+      (number-low w (q .readable .some) (q .readable .narrow) r (2 + (w + 1) * a)
+      (λ j l.
+      q .low (2 + (w + 1) * a + j)
+      (let z = step-fits (w + 1) a (size-at r 0) h in
+      let y = q .exact in
+      omega arith)));
+}
+
+-- ---- the records of a file that isn't refused
+
+-- a format whose shapes have k times k link values and stay within the edge
+pub record Squared (F : Format) : Type 0 where
+  pub some : 1 ≤ F .width
+  pub narrow : F .width ≤ 2
+  pub flags : F .flags ≤ 3
+  pub links : (k : ℕ) → F .links k ≡ k * k
+  pub small : F .vars + F .spare ≤ edge
+
+module _ (F : Format) (s : Squared F) (f : List ℕ) (e : body F f ≡ fine) (low : (i : ℕ) → i < length f → byte f i < 256) (i : ℕ) (h : i < shapes f) where
+  exactly : length (part F f i) ≡ past (sized (F .width)) 0 (size-at (part F f i) 0)
+  exactly = let z = part-exact F f e i h in let y = s .links (size-at (part F f i) 0) in omega arith
+
+  pub part-regular : Regular (F .width) (part F f i)
+  part-regular = record {
+    readable = record {
+      some = s .some;
+      narrow = s .narrow;
+      size = let z = size-low F f e i h in let y = vars-low F f e in let x = s .small in omega arith;
+      whole = let z = exactly in omega arith;
+    };
+    exact = exactly;
+    low = λ j l.
+        let z = starts-inside F f e (suc i) h in
+        let y = part-ends F f i in
+        let x = part-length F f i z in
+        rw (part-byte F f i j (omega arith)) (low (start F f i + j) (omega arith));
+    flagged = λ a l. let z = flags-few F f e i h a l in let y = s .flags in omega arith;
+    linked = λ a b l m.
+        link-value-low F f e i h (size-at (part F f i) 0) a b refl (s .links (size-at (part F f i) 0)) l m;
+  }
+
+  -- writing the shape of a record gives the record
+  pub part-again : record-of F (byte (part F f i) 0) (claim-of F f .shape i) ≡ part F f i
+  part-again = write-read (F .width) (part F f i) part-regular
+
+pub squared-1 : Squared version-1
+squared-1 = record {
+  some = omega arith;
+  narrow = omega arith;
+  flags = omega arith;
+  links = λ k. refl;
+  small = omega arith;
+}
+
+pub file-again : (f : List ℕ) → reading f ≡ fine → ((i : ℕ) → i < length f → byte f i < 256) → (i : ℕ) → i < shapes f → record-of version-1 (byte (part version-1 f i) 0) (claim f .shape i) ≡ part version-1 f i
+file-again f e low i h = part-again version-1 squared-1 f (body-fine f e) low i h
