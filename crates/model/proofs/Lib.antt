@@ -6,6 +6,7 @@ pub mod Masks
 pub mod Firsts
 pub mod Tables
 pub mod Fields
+pub mod Records
 pub mod Accepted
 pub mod Verdicts
 pub mod Worked

@@ -16,3 +16,4 @@ pub mod Recorded
 pub mod Trims
 pub mod Laying
 pub mod Inverse
+pub mod Again

@@ -1,4 +1,4 @@
-// A shape's record: read from a part of the file, and written as bytes.
+// A shape's record, read from a part of the file.
 ghost use mathlib.Core.Path.{_≡_};
 ghost use mathlib.Core.Bool.{cond, _&&_};
 ghost use Prim.Native.Nat.{_+_, _*_, _<_, _≤_};

@@ -8,7 +8,7 @@ use borrow.Author.Tests.{le-leb, lt-leb}
 use borrow.Author.Needs.{needs}
 use lib.ListN.{length, drop}
 use Rattle.format.specs.Meaning.{meaning}
-use Rattle.model.proofs.Accepted.{record-inside}
+use Rattle.model.proofs.Records.{record-inside}
 use Rattle.model.proofs.Tables.{table-none, table-store}
 use Rattle.model.specs.Verdict.{table}
 use Rattle.model.proofs.Fields.{in-turn-none, in-turn-more}

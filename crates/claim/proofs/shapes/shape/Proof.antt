@@ -4,7 +4,7 @@ use native.Mathlib.Omega.{arith}
 use borrow.Author.Needs.{needs}
 use lib.ListN.{length}
 use Rattle.format.specs.Meaning.{meaning}
-use Rattle.model.proofs.Accepted.{individuals-inside}
+use Rattle.model.proofs.Records.{individuals-inside}
 use Rattle.model.specs.File.{shape-record}
 use Rattle.model.proofs.Fields.{field-there}
 use Rattle.claim.proofs.Numbers.{square, triple}
