@@ -19,15 +19,17 @@ pub fn double_shape(random: &mut Random, claim: &Claim) -> Claim {
     changed
 }
 
+/// A copy of the claim, the number of one of its shapes and that shape's keys; none if it has no individuals.
+fn picked(random: &mut Random, claim: &Claim) -> Option<(Claim, usize, Vec<Key>)> {
+    let number = random.below(claim.listed.len());
+    let keys = claim.listed[number].1.keys();
+    (!keys.is_empty()).then(|| (claim.clone(), number, keys))
+}
+
 /// The claim with one link value changed; none if the shape that was picked has no individuals.
 pub fn change_link(random: &mut Random, claim: &Claim) -> Option<Claim> {
-    let mut changed = claim.clone();
-    let number = random.below(claim.listed.len());
+    let (mut changed, number, keys) = picked(random, claim)?;
     let shape = &mut changed.listed[number].1;
-    let keys = shape.keys();
-    if keys.is_empty() {
-        return None;
-    }
     let (from, to) = (*random.pick(&keys), *random.pick(&keys));
     let values = [Truth::Zero, Truth::One, Truth::Half];
     let others: Vec<Truth> = values
@@ -41,13 +43,8 @@ pub fn change_link(random: &mut Random, claim: &Claim) -> Option<Claim> {
 /// The claim with one key changed in its shared bit, a variable or its summary bit, still in order; none if that makes no
 /// shape.
 pub fn change_key(random: &mut Random, claim: &Claim) -> Option<Claim> {
-    let mut changed = claim.clone();
-    let number = random.below(claim.listed.len());
+    let (mut changed, number, keys) = picked(random, claim)?;
     let shape = &mut changed.listed[number].1;
-    let keys = shape.keys();
-    if keys.is_empty() {
-        return None;
-    }
     let old = *random.pick(&keys);
     if old.mask() == 0 && random.once_in(2) {
         let summary = shape.is_summary(old);

@@ -1,13 +1,15 @@
 // Prints the answer on a claim file: `accept a b` and the bytes of the points in decimal on a line of their own, or
 // `refuse number a b`.
+ghost use mathlib.Core.Path.{_≡_};
 ghost use Prim.Native.Nat.{_≤_};
+ghost use Rattle.model.specs.Verdict.{answer-of, verdict};
 use libc::STDOUT_FILENO;
 
 fn say(text: &[u8]) {
     io::write_all(STDOUT_FILENO, text);
 }
 
-fn number(n: usize) {
+fn decimal(n: usize) {
     io::print_decimal(STDOUT_FILENO, n as u64);
 }
 
@@ -36,26 +38,36 @@ fn bytes(answer: &[u8; 64], n: usize)
         if 0 < p {
             say(b" ");
         }
-        number(wide(answer[p]));
+        decimal(wide(answer[p]));
     }
     say(b"\n");
 }
 
-pub fn report(file: &[u8]) {
-    let mut answer = [0u8; 64];
-    let row = checker::check(file, &mut answer).row();
-    if row.number == 0 {
+// The verdict's line.
+fn line(number: usize, a: usize, b: usize) {
+    if number == 0 {
         say(b"accept ");
     } else {
         say(b"refuse ");
-        number(row.number);
+        decimal(number);
         say(b" ");
     }
-    number(row.a);
+    decimal(a);
     say(b" ");
-    number(row.b);
+    decimal(b);
     say(b"\n");
-    if row.number == 0 {
+}
+
+// Prints the answer and returns its number.
+pub fn report(file: &[u8]) -> usize
+    ensures { λ r. ⌜ r ≡ answer-of (verdict (now (file .entry)) 64) .number ⌝ }
+{
+    let mut answer = [0u8; 64];
+    let row = checker::check(file, &mut answer).row();
+    let number = row.number;
+    line(number, row.a, row.b);
+    if number == 0 {
         bytes(&answer, points(file));
     }
+    number
 }

@@ -5,7 +5,7 @@ use Rattle.report.proofs.bytes.Statement.{statement}
 use Rattle.report.proofs.bytes.Tie as tie
 use Rattle.report.proofs.bytes.Reads as reads
 use Rattle.report.proofs.bytes.Lts as lts
-use Rattle.report.proofs.number.Reads as number-reads
+use Rattle.report.proofs.decimal.Reads as decimal-reads
 use Rattle.report.proofs.say.Reads as say-reads
 use Rattle.report.proofs.wide.Reads as wide-reads
 
@@ -30,8 +30,8 @@ element-copy-out-wide c = search needs
 wide-requires : tie.Need-wide-requires Inv-loop μ-loop
 wide-requires c κs = search needs
 
-number-requires : tie.Need-number-requires Inv-loop μ-loop
-number-requires c κs = search needs
+decimal-requires : tie.Need-decimal-requires Inv-loop μ-loop
+decimal-requires c κs = search needs
 
 add-p : tie.Need-add-p Inv-loop μ-loop
 add-p c = search needs
@@ -62,7 +62,7 @@ bytes-spec =
     say-requires
     element-copy-out-wide
     wide-requires
-    number-requires
+    decimal-requires
     add-p
     loop-less
     loop-again
