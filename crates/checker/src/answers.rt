@@ -14,7 +14,7 @@ use crate::records::{lists_some, point, shape_of, statement_at};
 use shape::{EDGE, Place, Shape};
 
 // What is asked of every shape listed at a point: that it has a variable set, or that none of its individuals is shared.
-#[derive(Drop)]
+#[derive(Clone, Copy)]
 pub enum Test {
     Sets(u8),
     Unshared,

@@ -49,7 +49,7 @@ pub extern "C" fn claim_check(file: &[u8], out: &mut [u8], a: &mut usize, b: &mu
 }
 
 // The part of a file that holds a record, by its start and length; 0 and 0 where there is none.
-#[derive(Drop)]
+#[derive(Clone, Copy)]
 pub struct Part {
     pub start: usize,
     pub length: usize,

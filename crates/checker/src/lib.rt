@@ -1,5 +1,6 @@
 // The decision on a claim file: whether every outcome of every listed shape is covered where it leads, and what then holds
 // at each point. The promises stand on `check` and `record`.
+#![tactic(auto)]
 ghost use Rattle.std.specs.Prelude.{◌≡◌, length};
 ghost use Rattle.model.specs.File.{handed_back};
 ghost use Rattle.model.specs.Verdict.{verdict, buffer_after};
@@ -17,7 +18,7 @@ mod search;
 
 // The rows of document 01's table: 0 with M and the open points, 1 to 6 with the place, 7, 9 with N, 8 with the shape's
 // number and the successor.
-#[derive(Drop)]
+#[derive(Clone, Copy)]
 pub enum Verdict {
     Accepted(usize, usize),
     Unreadable(Fault, usize),

@@ -17,7 +17,7 @@ pub fn wide(b: u8) -> usize
 }
 
 // The statement at a point.
-#[derive(Drop)]
+#[derive(Clone, Copy)]
 pub struct Statement {
     pub op: u8,
     pub x: u8,

@@ -6,7 +6,7 @@ ghost use Rattle.checker.specs.Meaning.{Says};
 use crate::records::{covers, point, shape_of, statement_at};
 
 // The lowest shape number with an uncovered outcome, and where its first one leads.
-#[derive(Drop)]
+#[derive(Clone, Copy)]
 pub enum Lost {
     At(usize, usize),
     Nowhere,

@@ -5,7 +5,7 @@ ghost use Rattle.model.specs.Verdict.{answer, unreadable, answer_of};
 ghost use Rattle.claim.specs.Answers.{fault_of, reading_of};
 
 // What can be wrong with a file: refusals 1 to 6.
-#[derive(Drop)]
+#[derive(Clone, Copy)]
 pub enum Fault {
     CutShort,
     WrongMark,
@@ -16,7 +16,7 @@ pub enum Fault {
 }
 
 // A row of the table of answers.
-#[derive(Drop)]
+#[derive(Clone, Copy)]
 pub struct Row {
     pub number: usize,
     pub a: usize,
@@ -64,7 +64,7 @@ impl Fault {
 }
 
 // What reading comes to: all is right, or a fault at a place.
-#[derive(Drop)]
+#[derive(Clone, Copy)]
 pub enum Reading {
     Fine,
     Refused(Fault, usize),

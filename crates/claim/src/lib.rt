@@ -1,5 +1,6 @@
 // The claim file, read a field at a time: refusals 1 to 6 with their places, where each record starts, and the part of
 // the file that holds a record. One pass over the bytes.
+#![tactic(auto)]
 ghost use Rattle.std.specs.Prelude.{◌≡◌};
 ghost use Rattle.format.specs.Meaning.{meaning, Sized};
 ghost use Rattle.model.specs.Format.{format};
@@ -20,7 +21,7 @@ mod shapes;
 pub const STARTS: usize = 513;
 
 // What reading hands on: V, N and M, and where each record starts; record i ends where i + 1 starts, or would.
-#[derive(Drop)]
+#[derive(Clone, Copy)]
 pub struct Claim {
     pub reading: Reading,
     pub vars: usize,

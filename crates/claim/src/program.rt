@@ -8,7 +8,7 @@ use crate::fields::{Fault, Reading, byte, field};
 use format::Format;
 
 // Which fields an op uses.
-#[derive(Drop)]
+#[derive(Clone, Copy)]
 struct Operands {
     x: bool,
     y: bool,

@@ -1,5 +1,6 @@
 // The program: reads a claim file from standard input and prints the answer. The longest file has 62,793 bytes, so the
 // first 65,536 bytes of an input decide: every field lies before them, and so does the first extra byte.
+#![tactic(auto)]
 use libc::STDIN_FILENO;
 
 fn main() {

@@ -64,6 +64,7 @@ module _ {A : Type 0} {P Q : A → Type 0} where
 
   -- what holds of each holds of the one
   pub all_some : {C : Type 0} {l : List A} → ((a : A) → P a → Q a → C) → All P l → Some Q l → C
+  all_some f none t = elim t [ ]
   all_some f (also {x = x} p s) (here q) = f x p q
   all_some f (also p s) (there t) = all_some f s t
 
@@ -159,5 +160,6 @@ module _ {A B : Type 0} {r : A → B → Type 0} where
 
 module _ {A : Type 0} {P Q S : A → Type 0} where
   pub all_some_keep : {l : List A} → ((a : A) → P a → Q a → S a) → All P l → Some Q l → Some S l
+  all_some_keep f none t = elim t [ ]
   all_some_keep f (also {x = x} p s) (here q) = here (f x p q)
   all_some_keep f (also p s) (there t) = there (all_some_keep f s t)

@@ -9,7 +9,7 @@ use super::opening::Opened;
 use super::{EDGE, Place, Shape, links, opening};
 
 // A result of a step before folding: given or not.
-#[derive(Drop)]
+#[derive(Clone, Copy)]
 pub struct Raw {
     pub given: bool,
     pub shape: Shape,

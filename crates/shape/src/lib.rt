@@ -1,6 +1,7 @@
 // The engine: a shape by value, what a statement makes of it, and its record in the file. Each function equals its
 // definition in `model`. A shape is passed by value between the stages of a step; whatever runs in a loop takes single
 // numbers, or lends the one array that it looks at, since a struct by value is copied at each call.
+#![tactic(auto)]
 mod bits;
 pub mod clearing;
 pub mod covering;
@@ -28,7 +29,7 @@ pub const CELLS: usize = EDGE * EDGE;
 
 // Individual a has the variables masks[a]; flags[a] is 1 if it is shared, plus 2 if it is a summary; its link to b has
 // the value links[a * EDGE + b].
-#[derive(Drop)]
+#[derive(Clone, Copy)]
 pub struct Shape {
     pub n: usize,
     pub masks: [u16; EDGE],
@@ -37,14 +38,14 @@ pub struct Shape {
 }
 
 // Where a variable is held.
-#[derive(Drop)]
+#[derive(Clone, Copy)]
 pub enum Place {
     At(usize),
     Null,
 }
 
 // An outcome of a step: given or not, where it goes on, and the folded shape.
-#[derive(Drop)]
+#[derive(Clone, Copy)]
 pub struct Outcome {
     pub given: bool,
     pub successor: usize,

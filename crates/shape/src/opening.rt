@@ -11,7 +11,7 @@ use super::truth::Truth;
 use super::{CELLS, EDGE, Place, Shape, links};
 
 // A result of opening: given or not, the shape and its target.
-#[derive(Drop)]
+#[derive(Clone, Copy)]
 pub struct Opened {
     pub given: bool,
     pub shape: Shape,

@@ -2,7 +2,7 @@
 ghost use Rattle.std.specs.Prelude.{◌≡◌};
 ghost use Rattle.model.specs.Truth.{truth, may, must, half, join, under};
 
-#[derive(Drop)]
+#[derive(Clone, Copy)]
 pub struct Truth(pub u8);
 
 impl Truth {

@@ -1,1 +1,2 @@
 // No code: proofs/ shows what holds of the definitions of `model`.
+#![tactic(auto)]

@@ -1,5 +1,6 @@
 // Steps shapes and prints their outcomes. Each line of the input has op, x, y, s1, s2 and a shape as its record has it
 // (k, mask and flags of each, the link values row by row); after it the output has each outcome, successor and record.
+#![tactic(auto)]
 ghost use Rattle.std.specs.Prelude.{◌≡◌, ◌<◌, ◌≤◌, length};
 ghost use Rattle.model.specs.Step.{edge};
 
@@ -11,7 +12,7 @@ const LONGEST: usize = 122;
 // ---- reading
 
 // A number of the input, and the place after it.
-#[derive(Drop)]
+#[derive(Clone, Copy)]
 struct Read {
     value: u8,
     next: usize,
@@ -94,7 +95,7 @@ fn record_at(text: &[u8], place: usize) -> Row
     Row { bytes, next: at }
 }
 
-#[derive(Drop)]
+#[derive(Clone, Copy)]
 struct Row {
     bytes: [u8; LONGEST],
     next: usize,

@@ -1,4 +1,5 @@
 // Runs the checker on the files that the arguments name, and prints for each its name and the answer.
+#![tactic(auto)]
 use libc::STDOUT_FILENO;
 
 fn named(i: usize) {
