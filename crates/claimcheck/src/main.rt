@@ -1,10 +1,10 @@
-// The program: reads a claim file from standard input and prints the answer. The longest file has 62,793 bytes, so the
-// first 65,536 bytes of an input decide: every field lies before them, and so does the first extra byte.
+// The program: reads a claim file from standard input and prints the answer.
 #![tactic(auto)]
-use libc::STDIN_FILENO;
 
-fn main() {
-    let mut file = io::large_buffer();
-    let n = io::read_full(STDIN_FILENO, &mut file);
-    report::report(&file[..n]);
+use std::io;
+
+fn main(rt: HostRuntime) -> io::Result<()> {
+    let file = input::first_bytes(rt.alloc(), rt.stdin())?;
+    report::report(&mut rt.stdout(), &file)?;
+    Ok(())
 }

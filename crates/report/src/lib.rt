@@ -1,22 +1,11 @@
 // Prints the answer on a claim file: `accept a b` and the bytes of the points in decimal on a line of their own, or
 // `refuse number a b`.
 #![tactic(auto)]
-ghost use Rattle.std.specs.Prelude.{◌≡◌, ◌≤◌};
+ghost use Rattle.std.specs.Prelude.{◌≡◌, ◌≤◌, IfOk};
 ghost use Rattle.model.specs.Verdict.{answer_of, verdict};
 
-use libc::STDOUT_FILENO;
-
-fn say(text: &[u8]) {
-    io::write_all(STDOUT_FILENO, text);
-}
-
-fn decimal(n: usize) {
-    io::print_decimal(STDOUT_FILENO, n as u64);
-}
-
-fn wide(b: u8) -> usize {
-    b as usize
-}
+use std::io;
+use std::io::Write;
 
 // N, the number of points, of a file that was accepted.
 fn points(file: &[u8]) -> usize
@@ -25,50 +14,42 @@ fn points(file: &[u8]) -> usize
     if file.len() <= 6 {
         return 0;
     }
-    let n = wide(file[6]);
-    if 64 < n {
-        return 64;
-    }
-    n
+    usize::from(file[6]).min(64)
 }
 
-fn bytes(answer: &[u8; 64], n: usize)
+// The bytes of the first n points.
+fn bytes<W: Write>(out: &mut W, answer: &[u8; 64], n: usize) -> io::Result<()>
     requires { n ≤ 64 }
 {
     for p in 0..n {
         if 0 < p {
-            say(b" ");
+            write!(out, " ")?;
         }
-        decimal(wide(answer[p]));
+        let byte = answer[p];
+        write!(out, "{byte}")?;
     }
-    say(b"\n");
+    writeln!(out)
 }
 
 // The verdict's line.
-fn line(number: usize, a: usize, b: usize) {
+fn line<W: Write>(out: &mut W, number: usize, a: usize, b: usize) -> io::Result<()> {
     if number == 0 {
-        say(b"accept ");
+        writeln!(out, "accept {a} {b}")
     } else {
-        say(b"refuse ");
-        decimal(number);
-        say(b" ");
+        writeln!(out, "refuse {number} {a} {b}")
     }
-    decimal(a);
-    say(b" ");
-    decimal(b);
-    say(b"\n");
 }
 
 // Prints the answer and returns its number.
-pub fn report(file: &[u8]) -> usize
-    ensures { result ≡ (answer_of (verdict file.now 64)).number }
+pub fn report<W: Write>(out: &mut W, file: &[u8]) -> io::Result<usize>
+    ensures { IfOk result (λ n. n ≡ (answer_of (verdict file.now 64)).number) }
 {
     let mut answer = [0u8; 64];
     let row = checker::check(file, &mut answer).row();
     let number = row.number;
-    line(number, row.a, row.b);
+    line(out, number, row.a, row.b)?;
     if number == 0 {
-        bytes(&answer, points(file));
+        bytes(out, &answer, points(file))?;
     }
-    number
+    Ok(number)
 }

@@ -1,10 +1,13 @@
 // Steps shapes and prints their outcomes. Each line of the input has op, x, y, s1, s2 and a shape as its record has it
 // (k, mask and flags of each, the link values row by row); after it the output has each outcome, successor and record.
 #![tactic(auto)]
-ghost use Rattle.std.specs.Prelude.{◌≡◌, ◌<◌, ◌≤◌, length};
+
+ghost use Rattle.std.specs.Prelude.{◌≡◌, ◌<◌, ◌≤◌, IfOk, length};
 ghost use Rattle.model.specs.Step.{edge};
 
-use shape::{Outcome, Shape, records, stepping};
+use shape::{EDGE, Outcome, Shape, records, stepping};
+use std::io;
+use std::io::{BufWriter, Write};
 
 // The longest record: k is at most 10.
 const LONGEST: usize = 122;
@@ -16,13 +19,6 @@ const LONGEST: usize = 122;
 struct Read {
     value: u8,
     next: usize,
-}
-
-fn is_digit(b: u8) -> bool {
-    if b < 48 {
-        return false;
-    }
-    b < 58
 }
 
 // One more digit, modulo 256.
@@ -41,30 +37,29 @@ fn skipped(text: &[u8], place: usize) -> usize
     requires { place ≤ length text.now }
     ensures { result ≤ length text.now }
 {
-    let mut at = place;
-    while at < text.len() {
-        if is_digit(text[at]) {
+    for at in place..text.len() {
+        if text[at].is_ascii_digit() {
             return at;
         }
-        at += 1;
     }
-    at
+    text.len()
 }
 
 fn number(text: &[u8], place: usize) -> Read
     requires { place ≤ length text.now }
     ensures { result.next ≤ length text.now }
 {
-    let mut at = skipped(text, place);
     let mut value: u8 = 0;
-    while at < text.len() {
-        if !is_digit(text[at]) {
+    for at in skipped(text, place)..text.len() {
+        if !text[at].is_ascii_digit() {
             return Read { value, next: at };
         }
         value = with_digit(value, text[at]);
-        at += 1;
     }
-    Read { value, next: at }
+    Read {
+        value,
+        next: text.len(),
+    }
 }
 
 fn ten_at_most(k: u8) -> usize
@@ -114,37 +109,36 @@ fn shape_of(bytes: &[u8; LONGEST]) -> Shape
 
 // ---- writing
 
-fn word(v: usize) {
-    io::write_all(1, b" ");
-    io::print_decimal(1, v as u64);
+fn word<W: Write>(out: &mut W, v: usize) -> io::Result<()> {
+    write!(out, " {v}")
 }
 
-fn words(s: Shape)
+fn words<W: Write>(out: &mut W, s: Shape) -> io::Result<()>
     requires { s.n ≤ edge }
 {
     let n = s.n;
-    word(n);
+    word(out, n)?;
     for a in 0..n {
-        word(s.masks[a] as usize);
-        word(s.flags[a] as usize);
+        word(out, usize::from(s.masks[a]))?;
+        word(out, usize::from(s.flags[a]))?;
     }
     for a in 0..n {
         for b in 0..n {
-            word(s.links[a * 11 + b] as usize);
+            word(out, usize::from(s.links[a * EDGE + b]))?;
         }
     }
+    Ok(())
 }
 
-fn show(o: Outcome)
+fn show<W: Write>(out: &mut W, o: Outcome) -> io::Result<()>
     requires { o.shape.n ≤ edge }
 {
     if o.given {
-        io::write_all(1, b" ;");
-        word(o.successor);
-        io::write_all(1, b" :");
-        let s = o.shape;
-        words(s);
+        let successor = o.successor;
+        write!(out, " ; {successor} :")?;
+        words(out, o.shape)?;
     }
+    Ok(())
 }
 
 // ---- steps
@@ -155,20 +149,27 @@ fn variable(x: u8) -> u8
     x % 16
 }
 
-fn outcomes(op: u8, x: u8, y: u8, s1: usize, s2: usize, s: Shape)
+fn outcomes<W: Write>(
+    out: &mut W,
+    op: u8,
+    x: u8,
+    y: u8,
+    s1: usize,
+    s2: usize,
+    s: Shape,
+) -> io::Result<()>
     requires { (x < 16) × (y < 16) × (s.n < edge) }
 {
-    let n = s.n;
-    let m = stepping::places(op, n);
-    for j in 0..m {
-        show(stepping::outcome(op, x, y, s1, s2, s, j));
+    for j in 0..stepping::places(op, s.n) {
+        show(out, stepping::outcome(op, x, y, s1, s2, s, j))?;
     }
+    Ok(())
 }
 
 // One line, and where the next one starts.
-fn line(text: &[u8], place: usize) -> usize
+fn line<W: Write>(out: &mut W, text: &[u8], place: usize) -> io::Result<usize>
     requires { place ≤ length text.now }
-    ensures { result ≤ length text.now }
+    ensures { IfOk result (λ next. next ≤ length text.now) }
 {
     let op = number(text, place);
     let x = number(text, op.next);
@@ -176,42 +177,39 @@ fn line(text: &[u8], place: usize) -> usize
     let s1 = number(text, y.next);
     let s2 = number(text, s1.next);
     let row = record_at(text, s2.next);
-    let bytes = row.bytes;
-    let s = shape_of(&bytes);
-    io::print_decimal(1, op.value as u64);
-    word(x.value as usize);
-    word(y.value as usize);
-    word(s1.value as usize);
-    word(s2.value as usize);
-    io::write_all(1, b" ;");
-    words(s);
+    let s = shape_of(&row.bytes);
+    let (op, x, y, s1, s2) = (op.value, x.value, y.value, s1.value, s2.value);
+    write!(out, "{op} {x} {y} {s1} {s2} ;")?;
+    words(out, s)?;
     outcomes(
-        op.value,
-        variable(x.value),
-        variable(y.value),
-        s1.value as usize,
-        s2.value as usize,
+        out,
+        op,
+        variable(x),
+        variable(y),
+        usize::from(s1),
+        usize::from(s2),
         s,
-    );
-    io::write_all(1, b"\n");
-    row.next
+    )?;
+    writeln!(out)?;
+    Ok(row.next)
 }
 
 // There are at most as many lines as bytes.
-fn lines(text: &[u8]) {
-    let n = text.len();
+fn lines<W: Write>(out: &mut W, text: &[u8]) -> io::Result<()> {
     let mut at: usize = 0;
-    for turn in 0..n {
+    for _ in 0..text.len() {
         at = skipped(text, at);
         if text.len() <= at {
-            return;
+            return Ok(());
         }
-        at = line(text, at);
+        at = line(out, text, at)?;
     }
+    Ok(())
 }
 
-fn main() {
-    let mut buffer = io::large_buffer();
-    let n = io::read_full(0, &mut buffer);
-    lines(&buffer[..n]);
+fn main(rt: HostRuntime) -> io::Result<()> {
+    let text = input::first_bytes(rt.alloc(), rt.stdin())?;
+    let mut out = BufWriter::new(rt.alloc(), rt.stdout())?;
+    lines(&mut out, &text)?;
+    out.flush()
 }

@@ -4,7 +4,9 @@
 ghost use Rattle.std.specs.Prelude.{length, ◌≡◌};
 
 use claim::fields::{Fault, Reading};
-use libc::STDOUT_FILENO;
+use std::io::Write;
+use std::rt::Files;
+use std::{env, fs, io};
 
 // "File F, hexadecimal"
 fn file_f() -> [u8; 26]
@@ -20,100 +22,84 @@ fn changed_to() -> [u8; 8] {
     [0, 1, 2, 3, 9, 10, 65, 255]
 }
 
-fn say(text: &[u8]) {
-    io::write_all(STDOUT_FILENO, text);
-}
-
-fn number(n: usize) {
-    io::print_decimal(STDOUT_FILENO, n as u64);
-}
-
-fn refusal(fault: Fault, place: usize) {
+fn refusal<W: Write>(out: &mut W, fault: Fault, place: usize) -> io::Result<()> {
     let row = fault.row(place);
-    number(row.number);
-    say(b" ");
-    number(row.a);
-    say(b" ");
-    number(row.b);
+    let number = row.number;
+    let a = row.a;
+    let b = row.b;
+    write!(out, "{number} {a} {b}")
 }
 
 // The line of a file: what was read goes before the colon.
-fn line(file: &[u8]) {
-    say(b": ");
-    let claim = claim::scan(file);
-    let reading = claim.reading;
-    match reading {
-        Reading::Fine => say(b"read"),
-        Reading::Refused(fault, place) => refusal(fault, place),
+fn line<W: Write>(out: &mut W, file: &[u8]) -> io::Result<()> {
+    write!(out, ": ")?;
+    match claim::scan(file).reading {
+        Reading::Fine => write!(out, "read")?,
+        Reading::Refused(fault, place) => refusal(out, fault, place)?,
     }
-    say(b"\n");
+    writeln!(out)
 }
 
-fn prefix(n: usize) {
+fn prefix<W: Write>(out: &mut W, n: usize) -> io::Result<()> {
     let f = file_f();
     if n <= 26 {
-        say(b"the first ");
-        number(n);
-        line(&f[..n]);
+        write!(out, "the first {n}")?;
+        line(out, &f[..n])?;
     }
+    Ok(())
 }
 
-fn prefixes() {
+fn prefixes<W: Write>(out: &mut W) -> io::Result<()> {
     for n in 0..27 {
-        prefix(n);
+        prefix(out, n)?;
     }
+    Ok(())
 }
 
-fn changed(place: usize) {
+fn changed<W: Write>(out: &mut W, place: usize) -> io::Result<()> {
     if place < 26 {
-        for v in 0..8 {
-            let to = changed_to();
+        for to in changed_to() {
             let mut f = file_f();
-            f[place] = to[v];
-            say(b"byte ");
-            number(place);
-            say(b" to ");
-            number(to[v] as usize);
-            line(&f);
+            f[place] = to;
+            write!(out, "byte {place} to {to}")?;
+            line(out, &f)?;
         }
     }
+    Ok(())
 }
 
-fn changes() {
+fn changes<W: Write>(out: &mut W) -> io::Result<()> {
     for place in 0..26 {
-        changed(place);
+        changed(out, place)?;
+    }
+    Ok(())
+}
+
+fn contents<R: Files + Alloc>(rt: &R, path: &str) -> io::Result<Vec<u8, R::A>> {
+    input::first_bytes(rt.alloc(), fs::open(rt, path)?)
+}
+
+// A file that can't be read is named on standard error, and the next one follows.
+fn named(rt: &(impl Files + Alloc + Print + Eprint), path: &str) -> io::Result<()> {
+    match contents(rt, path) {
+        Ok(file) => {
+            print!(rt; "{path}")?;
+            line(&mut io::writer(rt), &file)
+        }
+        Err(error) => eprintln!(rt; "{path}: {error}"),
     }
 }
 
-// Reads at most 65,536 bytes, more than the longest file has.
-fn named(i: usize) {
-    let mut path = io::buffer();
-    let length = os::arg(i, &mut path);
-    if os::errno() != 0 {
-        os::fail(b"argument");
-        return;
+fn all_named(rt: &HostRuntime) -> io::Result<()> {
+    for path in env::args(rt)?.skip(1) {
+        named(rt, path.as_str())?;
     }
-    let fd = os::open_read(&path[..length]);
-    if fd < 0 {
-        os::fail(&path[..length]);
-        return;
-    }
-    let mut file = io::large_buffer();
-    let size = io::read_full(fd, &mut file);
-    libc::close(fd);
-    say(&path[..length]);
-    line(&file[..size]);
+    Ok(())
 }
 
-fn all_named() {
-    let n = os::arg_count();
-    for i in 1..n {
-        named(i);
-    }
-}
-
-fn main() {
-    prefixes();
-    changes();
-    all_named();
+fn main(rt: HostRuntime) -> io::Result<()> {
+    let mut out = rt.stdout();
+    prefixes(&mut out)?;
+    changes(&mut out)?;
+    all_named(&rt)
 }

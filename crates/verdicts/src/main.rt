@@ -1,30 +1,28 @@
 // Runs the checker on the files that the arguments name, and prints for each its name and the answer.
 #![tactic(auto)]
-use libc::STDOUT_FILENO;
 
-fn named(i: usize) {
-    let mut path = io::buffer();
-    let length = os::arg(i, &mut path);
-    if os::errno() != 0 {
-        os::fail(b"argument");
-        return;
-    }
-    let fd = os::open_read(&path[..length]);
-    if fd < 0 {
-        os::fail(&path[..length]);
-        return;
-    }
-    let mut file = io::large_buffer();
-    let size = io::read_full(fd, &mut file);
-    libc::close(fd);
-    io::write_all(STDOUT_FILENO, &path[..length]);
-    io::write_all(STDOUT_FILENO, b"\n");
-    report::report(&file[..size]);
+use std::rt::Files;
+use std::{env, fs, io};
+
+fn contents<R: Files + Alloc>(rt: &R, path: &str) -> io::Result<Vec<u8, R::A>> {
+    input::first_bytes(rt.alloc(), fs::open(rt, path)?)
 }
 
-fn main() {
-    let n = os::arg_count();
-    for i in 1..n {
-        named(i);
+// A file that can't be read is named on standard error, and the next one follows.
+fn named(rt: &(impl Files + Alloc + Print + Eprint), path: &str) -> io::Result<()> {
+    match contents(rt, path) {
+        Ok(file) => {
+            println!(rt; "{path}")?;
+            report::report(&mut io::writer(rt), &file)?;
+            Ok(())
+        }
+        Err(error) => eprintln!(rt; "{path}: {error}"),
     }
+}
+
+fn main(rt: HostRuntime) -> io::Result<()> {
+    for path in env::args(&rt)?.skip(1) {
+        named(&rt, path.as_str())?;
+    }
+    Ok(())
 }
