@@ -6,7 +6,7 @@ use native.Mathlib.Omega.{arith}
 use lib.ListN.{length}
 use Rattle.model.specs.Step.{edge}
 use Rattle.model.specs.Format.{Format, version_1}
-use Rattle.model.specs.File.{fine, byte, size_at, past, flags, shapes, start, body, reading, part}
+use Rattle.model.specs.File.{fine, byte, size_at, past, shapes, start, body, reading, part}
 use Rattle.model.specs.Claim.{record_of, claim_of, claim}
 use Rattle.model.proofs.Records.{part_ends, part_length, part_byte}
 use Rattle.model.proofs.Accepted.{part_exact, size_low, flags_few, link_value_low, vars_low, starts_inside, body_fine}

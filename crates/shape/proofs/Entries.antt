@@ -1,19 +1,18 @@
 -- Masks and flags: one entry set, and shapes equal part by part.
-use Prim.Native.Nat.{ℕ, zero, suc, ◌+◌, ◌-◌, ◌*◌, ◌/◌, ◌%◌, ◌<◌, ◌≤◌}
-use mathlib.Core.Bool.{Bool, true, false, cond, not, ◌&&◌, ◌||◌}
-use mathlib.Core.List.{List, [], ◌∷◌}
+use Prim.Native.Nat.{ℕ, zero, suc, ◌+◌, ◌-◌, ◌*◌, ◌/◌, ◌%◌, ◌<◌}
+use mathlib.Core.Bool.{Bool, true, false, cond, not, ◌&&◌}
+use mathlib.Core.List.{List}
 use mathlib.Core.Logic.{◌≢◌}
-use mathlib.Core.Path.{◌≡◌, refl, sym, ap, ap₂, ◌∙◌, fun_ext}
+use mathlib.Core.Path.{◌≡◌, refl, sym, ap, ◌∙◌, fun_ext}
 use native.Mathlib.Omega.{arith}
 use lib.Dec.{eqb, ltb}
-use lib.ListN.{get_or, set, length, length-set, replicate}
+use lib.ListN.{get_or, set, length, replicate}
 use lib.Seq.{get_or-set_same, get_or-set_other}
-use borrow.Author.Tests.{eqb-true, eqb-false, eq-eqb, ne_eqb, ltb-true, ltb-false, lt-ltb, le-ltb}
+use borrow.Author.Tests.{eqb-true, eqb-false, eq-eqb, ne_eqb}
 use Rattle.model.specs.Truth.{Truth, 𝟘, truth}
 use Rattle.model.specs.Step.{edge, copy}
 use Rattle.model.proofs.Bools.{by}
 use Rattle.shape.specs.Meaning.{made, mask, shared, summary, grid}
-use Rattle.shape.proofs.Tests.{ltb_step}
 
 pub made_eq : {n n' : ℕ} {m m' : ℕ → ℕ} {s s' h h' : ℕ → Bool} {l l' : ℕ → ℕ → Truth} → n ≡ n' → m ≡ m' → s ≡ s' → h ≡ h' → l ≡ l' → made n m s h l ≡ made n' m' s' h' l'
 made_eq e f g h k = rw (e, f, g, h, k)

@@ -1,6 +1,6 @@
 -- The matrix of link values: one value set, and loops down a column or along a row.
-use Prim.Native.Nat.{ℕ, zero, suc, ◌+◌, ◌*◌, ◌<◌, ◌≤◌}
-use mathlib.Core.Bool.{Bool, true, false, cond, not, ◌&&◌, ◌||◌}
+use Prim.Native.Nat.{ℕ, ◌+◌, ◌*◌, ◌<◌, ◌≤◌}
+use mathlib.Core.Bool.{Bool, true, false, cond, ◌&&◌}
 use mathlib.Core.List.{List}
 use mathlib.Core.Logic.{◌≢◌}
 use mathlib.Core.Path.{◌≡◌, refl, sym, ap, ap₂, ◌∙◌, fun_ext}
@@ -9,8 +9,8 @@ use lib.Dec.{eqb, ltb}
 use lib.ListN.{get_or, set, length, length-set}
 use lib.Seq.{get_or-set_same, get_or-set_other}
 use borrow.Author.Tests.{eqb-true, eqb-false, eq-eqb, ne_eqb, ltb-true, ltb-false, lt-ltb, le-ltb}
-use Rattle.model.specs.Truth.{Truth, 𝟘, 𝟙, truth, sure}
-use Rattle.model.specs.Step.{edge, copy, from_u, sure_but}
+use Rattle.model.specs.Truth.{Truth, 𝟘, 𝟙, truth}
+use Rattle.model.specs.Step.{edge, copy, from_u}
 use Rattle.model.proofs.Bools.{by, clash, and_left, and_right, and_both, and_false}
 use Rattle.shape.specs.Meaning.{cells, grid, row, column}
 use Rattle.shape.proofs.Tests.{ltb_step}

@@ -14,7 +14,7 @@ use Rattle.model.specs.Truth.{Truth, 𝟘, 𝟙, ½, truth, code}
 use Rattle.model.specs.Finite.{each}
 use Rattle.model.specs.Shape.{Shape}
 use Rattle.model.specs.Step.{edge}
-use Rattle.model.specs.File.{byte, number, size_at, individuals_at, links_at, past, flags, part}
+use Rattle.model.specs.File.{byte, number, size_at, individuals_at, links_at, past, flags}
 use Rattle.model.specs.Claim.{bytes, flags_of, record_of, shape_of}
 use Rattle.model.proofs.Bools.{top_or_below, and_left, and_right, cond_cong}
 use Rattle.shape.specs.Meaning.{trimmed}

@@ -3,15 +3,15 @@ use Prim.Native.Nat.{ℕ, zero, suc, ◌+◌, ◌-◌, ◌*◌, ◌/◌, ◌%◌
 use mathlib.Core.Bool.{Bool, true, false, cond, not, ◌&&◌}
 use mathlib.Core.List.{List, [], ◌∷◌, map}
 use mathlib.Core.Logic.{◌≢◌}
-use mathlib.Core.Path.{◌≡◌, refl, sym, ap, ◌∙◌}
+use mathlib.Core.Path.{◌≡◌, refl, sym, ap}
 use native.Mathlib.Omega.{arith}
-use lib.Dec.{eqb, ltb}
-use borrow.Author.Tests.{eqb-true, eqb-false, eq-eqb, ne_eqb, lt-ltb, le-ltb}
+use lib.Dec.{eqb}
+use borrow.Author.Tests.{eqb-true, eqb-false, eq-eqb, ne_eqb, le-ltb}
 use Rattle.model.specs.Finite.{Ref, null, at, null_ref, equal, any, in_each}
 use Rattle.model.specs.Store.{Op, stop, at_point}
 use Rattle.model.specs.Shape.{Shape, holder}
 use Rattle.model.specs.Truth.{must}
-use Rattle.model.specs.Step.{Opened, whole, divided, settled, possible, divides, at_holder, moved, fresh}
+use Rattle.model.specs.Step.{Opened, whole, divided, settled, possible, divides, at_holder, moved}
 use Rattle.model.specs.Claim.{op_of}
 use Rattle.model.proofs.Bools.{by, clash, not_true}
 use Rattle.shape.specs.Slots.{opens, open_slot, unlink_slot, link_slot, load_slot, clear_slot, store_slot, shut, closed, places, places_of, through_slot, result_slot}

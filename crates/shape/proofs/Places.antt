@@ -1,5 +1,5 @@
 -- The results one by one, in the order of their places, are the results of the definition: none is lost, none added.
-use Prim.Native.Nat.{ℕ, zero, suc, ◌+◌, ◌-◌, ◌*◌, ◌/◌, ◌%◌, ◌<◌, ◌≤◌}
+use Prim.Native.Nat.{ℕ, zero, suc, ◌+◌, ◌-◌, ◌*◌, ◌/◌, ◌%◌, ◌<◌}
 use mathlib.Core.Bool.{Bool, true, false, cond, not, ◌&&◌, ◌||◌}
 use mathlib.Core.List.{List, [], ◌∷◌, ◌++◌, map, append_assoc}
 use mathlib.Core.Path.{◌≡◌, refl, sym, ap, ap₂, subst, ◌∙◌, fun_ext}
@@ -10,9 +10,9 @@ use Rattle.model.specs.Truth.{𝟘, may, must}
 use Rattle.model.specs.Finite.{Ref, null, at, any, given, each, in_each}
 use Rattle.model.specs.Store.{Op, stop, go, set_null, set_var, set_new, load, cut, store, is_null, is_same, at_point}
 use Rattle.model.specs.Shape.{Shape, holder}
-use Rattle.model.specs.Step.{Opened, no_target, whole, divided, settled, possible, divides, targets, opened, unlinked, cleared, linked, moved, now_unshared, still_shared, with_n, from, into, sharing, sure_but, sure_if, from_u, ones, mays, summary_may, at_holder, loaded, cut_off, stored, results, outcomes, folded_result}
+use Rattle.model.specs.Step.{Opened, no_target, whole, divided, settled, possible, divides, targets, opened, unlinked, cleared, linked, moved, now_unshared, still_shared, with_n, from, into, sharing, sure_but, sure_if, from_u, ones, mays, summary_may, at_holder, results, outcomes, folded_result}
 use Rattle.shape.specs.Meaning.{trimmed_result}
-use Rattle.shape.specs.Slots.{target, open_slot, cut_slot, unlink_slot, tie_slot, link_slot, load_slot, clear_slot, store_slot, places, result_slot, outcome_slot}
+use Rattle.shape.specs.Slots.{target, open_slot, unlink_slot, link_slot, load_slot, clear_slot, store_slot, places, result_slot, outcome_slot}
 use Rattle.shape.proofs.Stages.{end_nil}
 
 -- ---- lists of lists

@@ -1,25 +1,24 @@
 -- Records: places that go up by steps, and what is read at them.
-use Prim.Native.Nat.{ℕ, zero, suc, ◌+◌, ◌*◌, ◌/◌, ◌%◌, ◌<◌, ◌≤◌}
+use Prim.Native.Nat.{ℕ, ◌+◌, ◌*◌, ◌/◌, ◌%◌, ◌<◌, ◌≤◌}
 use mathlib.Core.Bool.{Bool, true, false, cond, not, ◌&&◌, ◌||◌, beq}
 use mathlib.Core.List.{List}
 use mathlib.Core.Logic.{◌≢◌}
 use mathlib.Core.Path.{◌≡◌, refl, sym, ap, ap₂, ◌∙◌, fun_ext}
 use native.Mathlib.Omega.{arith}
 use native.Mathlib.Nat.{mul-le-mul_left, mul-add, mul-one, mul-zero, add-zero}
-use native.Mathlib.Numerals.{add-one}
 use lib.Dec.{eqb, ltb}
-use borrow.Author.Tests.{eqb-true, eqb-false, eq-eqb, ne_eqb, ltb-true, lt-ltb}
-use Rattle.model.specs.Truth.{Truth, 𝟘, under, truth}
+use borrow.Author.Tests.{eqb-true, eqb-false, eq-eqb, lt-ltb}
+use Rattle.model.specs.Truth.{𝟘, under, truth}
 use Rattle.model.specs.Finite.{every}
 use Rattle.model.specs.Shape.{Shape, covered_at, covered}
 use Rattle.model.specs.File.{byte, number, size_at}
 use Rattle.model.specs.Claim.{shape_of}
-use Rattle.model.proofs.Bools.{by, clash, same_bool, false_of, and_left, and_right, and_both, and_false, beq_true, eq_beq}
+use Rattle.model.proofs.Bools.{by, same_bool, false_of, and_left, and_right, and_both, beq_true, eq_beq}
 use Rattle.model.proofs.Search.{every_elim, every_intro}
-use Rattle.shape.specs.Meaning.{made, mask, shared, summary, grid, meaning}
+use Rattle.shape.specs.Meaning.{made, mask, shared, summary, grid}
 use Rattle.shape.specs.Records.{sized, keys_agree}
 use Rattle.shape.proofs.Tests.{every_cong}
-use Rattle.shape.proofs.Entries.{made_eq, mask_at, shared_at, summary_at}
+use Rattle.shape.proofs.Entries.{mask_at, shared_at, summary_at}
 
 -- ---- steps of one length
 

@@ -1,16 +1,16 @@
 -- The stages of a step, from what the code's tests say.
 use Prim.Native.Nat.{ℕ, ◌≤◌, ◌<◌}
-use mathlib.Core.Bool.{Bool, true, false, cond, not, ◌&&◌, ◌||◌}
+use mathlib.Core.Bool.{Bool, true, false, not, ◌&&◌, ◌||◌}
 use mathlib.Core.List.{List, [], ◌∷◌, ◌++◌, map}
 use mathlib.Core.Logic.{◌≢◌}
 use mathlib.Core.Path.{◌≡◌, refl, sym, ap, ap₂, ◌∙◌, fun_ext}
 use native.Mathlib.Omega.{arith}
 use lib.Dec.{eqb, ltb, leb}
 use borrow.Author.Tests.{eqb-true, ne_eqb, ltb-true, leb-true, lt-ltb, le-leb, lt-leb}
-use Rattle.model.specs.Truth.{Truth, 𝟘, may, must, sure}
+use Rattle.model.specs.Truth.{Truth, may, must, sure}
 use Rattle.model.specs.Finite.{at, any, given}
 use Rattle.model.specs.Shape.{Shape}
-use Rattle.model.specs.Step.{Opened, edge, with_n, into, sharing, sure_but, sure_if, possible, settled, ones, mays, summary_may, now_unshared, still_shared}
+use Rattle.model.specs.Step.{Opened, edge, with_n, into, sharing, sure_but, possible, settled, ones, mays, summary_may, now_unshared, still_shared}
 use Rattle.model.proofs.Bools.{by, same_bool}
 use Rattle.shape.specs.Meaning.{made, grid, column}
 use Rattle.shape.specs.Slots.{target}

@@ -7,7 +7,6 @@ use native.Mathlib.Numerals.{add-one}
 use native.Mathlib.Omega.{arith}
 use lib.Dec.{eqb, ltb}
 use borrow.Author.Tests.{ltb-true, ltb-false, lt-ltb, le-ltb, ne_eqb}
-use Rattle.model.specs.Truth.{Truth, may, must}
 use Rattle.model.specs.Finite.{any, every, count}
 use Rattle.model.specs.Step.{edge}
 use Rattle.model.proofs.Bools.{by, clash, false_of}

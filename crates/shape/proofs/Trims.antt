@@ -5,7 +5,6 @@ use mathlib.Core.Path.{◌≡◌, ap}
 use lib.Dec.{eqb, ltb}
 use borrow.Author.Tests.{lt-ltb}
 use Rattle.model.specs.Truth.{𝟘, under}
-use Rattle.model.specs.Finite.{every}
 use Rattle.model.specs.Shape.{Shape, covered_at, covered}
 use Rattle.shape.specs.Meaning.{trimmed}
 use Rattle.shape.proofs.Tests.{every_cong}

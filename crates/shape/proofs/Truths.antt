@@ -1,12 +1,12 @@
 -- Bytes as truth values: what the tests of the code say.
-use Prim.Native.Nat.{ℕ, zero, suc, ◌<◌}
-use mathlib.Core.Bool.{Bool, true, false, cond}
+use Prim.Native.Nat.{ℕ, zero, suc}
+use mathlib.Core.Bool.{true}
 use mathlib.Core.Logic.{◌≢◌}
 use mathlib.Core.Path.{◌≡◌, refl}
 use native.Mathlib.Omega.{arith}
 use lib.Dec.{ltb, eqb}
 use borrow.Author.Tests.{lt-ltb, eq-eqb, ne_eqb}
-use Rattle.model.specs.Truth.{Truth, 𝟘, 𝟙, ½, truth, may, must, half, join, under, sure}
+use Rattle.model.specs.Truth.{𝟘, 𝟙, ½, truth, may, must, half, join, under, sure}
 use Rattle.model.specs.Step.{sure_but}
 use Rattle.model.proofs.Bools.{by}
 

@@ -1,6 +1,5 @@
 -- What the engine's values mean: arrays read as total functions that are zero beyond their edge.
-use Rattle.std.specs.Prelude.{ℕ, zero, suc, ◌+◌, ◌*◌, ◌/◌, ◌%◌, ◌<◌, ◌≤◌, Bool, true, false, cond, not, ◌&&◌, List, ◌≡◌, eqb, ltb, get_or, length}
-use Rattle.model.specs.Truth as T
+use Rattle.std.specs.Prelude.{ℕ, ◌+◌, ◌*◌, ◌/◌, ◌%◌, ◌<◌, ◌≤◌, Bool, false, cond, ◌&&◌, List, ◌≡◌, eqb, ltb, get_or, length}
 use Rattle.model.specs.Truth.{Truth, truth, 𝟘}
 use Rattle.model.specs.Finite.{Ref, null, at, given}
 use Rattle.model.specs.Shape as M

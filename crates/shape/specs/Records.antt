@@ -1,5 +1,5 @@
 -- A shape's record in the file, as the engine reads and writes it: only the width of a mask matters of a format.
-use Rattle.std.specs.Prelude.{ℕ, ◌+◌, ◌*◌, ◌/◌, ◌%◌, ◌≤◌, Bool, false, not, ◌&&◌, ◌||◌, List, ◌++◌, eqb, length, take, drop}
+use Rattle.std.specs.Prelude.{ℕ, ◌*◌, ◌/◌, ◌%◌, ◌≤◌, Bool, false, not, ◌&&◌, ◌||◌, List, eqb, length}
 use Rattle.std.specs.Bool.{beq}
 use Rattle.model.specs.Format.{Format}
 use Rattle.model.specs.File.{size_at, past}

@@ -1,6 +1,6 @@
 -- The results of opening, clearing and linking one by one: at a place number one result, if it is given, or none.
 -- proofs/Places shows that in the order of the places they are the lists of the definitions.
-use Rattle.std.specs.Prelude.{ℕ, zero, suc, ◌+◌, ◌-◌, ◌*◌, ◌/◌, ◌%◌, ◌≤◌, Bool, true, false, cond, not, ◌&&◌, List, [], ◌∷◌, map, ◌≡◌, eqb, ltb}
+use Rattle.std.specs.Prelude.{ℕ, suc, ◌+◌, ◌-◌, ◌*◌, ◌/◌, ◌%◌, ◌≤◌, Bool, true, false, cond, not, ◌&&◌, List, [], ◌∷◌, map, ◌≡◌, eqb, ltb}
 use Rattle.model.specs.Truth.{𝟘, 𝟙, may, must}
 use Rattle.model.specs.Finite.{Ref, null, at, null_ref, equal, any, given, in_each}
 use Rattle.model.specs.Store.{Op, stop, go, set_null, set_var, set_new, load, cut, store, is_null, is_same, at_point}

@@ -2,6 +2,7 @@
 // definition in `model`. A shape is passed by value between the stages of a step; whatever runs in a loop takes single
 // numbers, or lends the one array that it looks at, since a struct by value is copied at each call.
 #![tactic(auto)]
+
 mod bits;
 pub mod clearing;
 pub mod covering;

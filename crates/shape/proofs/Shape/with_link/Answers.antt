@@ -1,0 +1,12 @@
+-- `shape::Shape::with_link` meets its contract. The link from a to b becomes v.
+use mathlib.Core.Path.{◌≡◌, refl}
+use native.Mathlib.Omega.{arith}
+use borrow.Author.Rules.{rules}
+use lib.ListN.{length}
+use Rattle.shape.proofs.Entries.{made_eq}
+use Rattle.shape.proofs.Grid.{link_set}
+use Rattle.shape.specs.Meaning.{cells}
+use Rattle.shape.proofs.Shape.with_link.Goals as goal
+
+pub returns : goal.returns
+returns c = let a = c.args in let z : length a.self.links ≡ cells = search rules in made_eq refl refl refl refl (link_set a.self.links a.a a.b a.v.0 z (omega arith) (omega arith))

@@ -1,0 +1,12 @@
+-- What holds at each turn of the loop.
+use Prim.Native.Nat.{◌≤◌, ℕ}
+use mathlib.Core.Bool.{◌&&◌, false, not}
+use mathlib.Core.Path.{◌≡◌}
+use lib.Dec.{eqb}
+use Rattle.model.specs.Finite.{any}
+use Rattle.model.specs.Truth.{must}
+use Rattle.shape.specs.Meaning.{grid}
+use Rattle.shape.proofs.links.one_into.Given as goal
+
+abbrev pub invariant-loop-a : goal.invariant-loop-a
+invariant-loop-a l = (l.a ≤ l.n) × (any l.a (λ (k : ℕ). not (eqb k l.but) && must (grid l.links k l.t)) ≡ false)

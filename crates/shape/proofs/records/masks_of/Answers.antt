@@ -1,0 +1,22 @@
+-- `shape::records::masks_of` meets its contract. The masks of the k individuals that stand from byte 2 on, each with
+-- its flags after it.
+use Prim.Native.Nat.{◌*◌, ◌+◌, ℕ}
+use mathlib.Core.Path.{◌∙◌, ap, refl, sym}
+use native.Mathlib.Omega.{arith}
+use Rattle.model.specs.File.{number}
+use Rattle.model.specs.Step.{edge}
+use Rattle.shape.proofs.Entries.{mask_zeros}
+use Rattle.shape.proofs.Lookups.{lined_next, lined_none}
+use Rattle.shape.proofs.Recorded.{start_place, step_next}
+use Rattle.shape.proofs.records.masks_of.Goals as goal
+
+pub loop-a-init : goal.loop-a-init
+loop-a-init c = (omega arith, sym (start_place c.args.width), lined_none _ _ _ refl (mask_zeros edge))
+
+pub loop-a-preserved : goal.loop-a-preserved
+loop-a-preserved c =
+    let g = c.args in
+    let s = c.loop-a in
+    let h = c.requires in
+    let z = step_next (g.width + 1) s.a in
+    (omega arith, omega arith, lined_next (λ (x : ℕ). number g.width g.part.now (2 + (g.width + 1) * x)) (λ x. 0) s.r s.a _ (omega arith) (c.mask_at-m.ensures ∙ ap (number g.width g.part.now) s.invariant.1) s.invariant.2)
