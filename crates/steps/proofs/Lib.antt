@@ -1,2 +1,0 @@
--- A law that two proofs cite.
-mod Squares
