@@ -13,7 +13,7 @@ fn main() {
     let archive = directory.join("libchecker.a");
     println!("cargo:rerun-if-changed={}", archive.display());
     if !archive.exists() {
-        panic!("target/staticlib/libchecker.a isn't there: run `rt staticlib checker` first");
+        panic!("target/staticlib/libchecker.a isn't there: run `tools/staticlib` first");
     }
     println!("cargo:rustc-link-search=native={}", directory.display());
     println!("cargo:rustc-link-lib=static=checker");

@@ -1,4 +1,4 @@
-/* The proved claim checker's face for C. Link target/staticlib/libchecker.a, made by `rt staticlib checker`.
+/* The proved claim checker's face for C. Link target/staticlib/libchecker.a, made by `tools/staticlib`.
    A slice is a pointer and a length; the pointer of an empty one must be valid too. */
 #ifndef CLAIMS_H
 #define CLAIMS_H
