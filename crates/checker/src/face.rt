@@ -1,4 +1,4 @@
-// The library's face for other languages: numbers and byte slices only.
+// The library's face for other languages: numbers and byte slices only. `checker_c` exports it to C.
 ghost use Rattle.std.specs.Prelude.{◌≡◌, length};
 ghost use Rattle.model.specs.Verdict.{answer, answer_of, verdict, buffer_after};
 ghost use Rattle.checker.specs.Meaning.{verdict_of, handed_place};
@@ -38,8 +38,7 @@ impl Verdict {
 }
 
 // Decides on a file: the number, with a and b, and the answer bytes where it is 0.
-#[unsafe(no_mangle)]
-pub extern "C" fn claim_check(file: &[u8], out: &mut [u8], a: &mut usize, b: &mut usize) -> usize
+pub fn claim_check(file: &[u8], out: &mut [u8], a: &mut usize, b: &mut usize) -> usize
     ensures exact { (answer result a.new b.new ≡ answer_of (verdict file.now (length out.old))) × (out.new ≡ buffer_after file.now out.old) }
 {
     let row = check(file, out).row();
@@ -80,8 +79,7 @@ pub fn place(file: &[u8], number: usize) -> Part
     }
 }
 
-#[unsafe(no_mangle)]
-pub extern "C" fn claim_record(file: &[u8], number: usize, start: &mut usize) -> usize
+pub fn claim_record(file: &[u8], number: usize, start: &mut usize) -> usize
     ensures exact { (start.new, result) ≡ handed_place file.now number }
 {
     let part = place(file, number);
