@@ -1,11 +1,11 @@
 -- The verdict on a file, with both promises: it is the definition's, and an accepted file is safe.
-use Prim.Native.Nat.{ℕ, ◌+◌, ◌%◌, ◌≤◌, ◌<◌}
+use Prim.Native.Nat.{ℕ, ◌%◌, ◌≤◌, ◌<◌}
 use mathlib.Core.Bool.{true, false}
 use mathlib.Core.List.{List, ◌++◌}
-use mathlib.Core.Path.{◌≡◌, refl, sym, ap, ap₂, ◌∙◌}
+use mathlib.Core.Path.{◌≡◌, sym, ap, ◌∙◌}
 use lib.Dec.{eqb}
 use lib.ListN.{length, get_or, drop}
-use Rattle.model.specs.Finite.{null, at, count}
+use Rattle.model.specs.Finite.{count}
 use Rattle.model.specs.Format.{format}
 use Rattle.model.specs.File.{reading, version, fine, points, shapes}
 use Rattle.model.specs.Claim.{claim}

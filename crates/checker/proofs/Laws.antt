@@ -1,21 +1,18 @@
 -- A file that was read, as the checker's functions meet it: every place that they look at is there, and holds what the
 -- definitions say.
 use Prim.Native.Nat.{ℕ, suc, ◌+◌, ◌*◌, ◌-◌, ◌≤◌, ◌<◌}
-use mathlib.Core.Bool.{Bool, true, false, cond}
+use mathlib.Core.Bool.{Bool, true, false}
 use mathlib.Core.List.{List}
-use mathlib.Core.Path.{◌≡◌, refl, sym, ap, ap₂, ◌∙◌}
+use mathlib.Core.Path.{◌≡◌, ap, ap₂, ◌∙◌}
 use native.Mathlib.Numerals.{add-one}
 use native.Mathlib.Omega.{arith}
-use lib.Dec.{ltb, eqb}
 use lib.ListN.{length, get_or, take, drop}
 use borrow.Author.Tests.{ltb-true, eqb-true, lt-ltb}
-use Rattle.model.specs.Shape as M
 use Rattle.model.specs.Step.{edge}
 use Rattle.model.specs.Format.{version_1}
 use Rattle.model.specs.File as file
 use Rattle.model.specs.File.{fine, byte, operand_right, uses_x, uses_y, point_at, points, size_at, past, point_record, start, part}
 use Rattle.model.specs.Claim.{op_at, claim}
-use Rattle.model.proofs.Bools.{by}
 use Rattle.model.proofs.Fields.{then_left, then_right, field_there, field_right}
 use Rattle.model.proofs.Accepted.{body_fine, shapes_few, vars_low, start_up, starts_inside, part_exact, size_low, point_low, point_fine}
 use Rattle.shape.specs.Records.{Readable}

@@ -1,16 +1,14 @@
 -- The outcomes of a shape, place by place: what the search knows of those passed, and that all of them together are the
 -- definition's. The engine's outcomes say nothing beyond their individuals, and covering doesn't ask there.
-use Prim.Native.Nat.{ℕ, zero, suc, ◌+◌, ◌≤◌, ◌<◌}
+use Prim.Native.Nat.{ℕ, ◌+◌, ◌<◌}
 use mathlib.Core.Bool.{Bool, true, false, cond, not, ◌&&◌, ◌||◌, beq}
 use mathlib.Core.List.{List, [], ◌∷◌, map}
 use mathlib.Core.Path.{◌≡◌, refl, sym, ap, ap₂, ◌∙◌}
-use native.Mathlib.Omega.{arith}
-use lib.Dec.{eqb, ltb}
+use lib.Dec.{eqb}
 use borrow.Author.Tests.{lt-ltb}
-use Rattle.model.specs.Truth.{under}
-use Rattle.model.specs.Finite.{null, at, any, every, given, each}
+use Rattle.model.specs.Finite.{null, at, any, given, each}
 use Rattle.model.specs.Store.{Op}
-use Rattle.model.specs.Shape.{Shape, links_covered, covered_at, covered}
+use Rattle.model.specs.Shape.{Shape, covered_at, covered}
 use Rattle.model.specs.Step.{outcomes}
 use Rattle.model.specs.Claim.{Claim}
 use Rattle.model.specs.Verdict.{covered_there, lost, lost_from}

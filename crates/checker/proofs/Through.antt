@@ -1,13 +1,13 @@
 -- Which variable a statement goes through, by the number of its op: "y in 5, x in 6 and 7".
-use Prim.Native.Nat.{ℕ, ◌≤◌, ◌<◌}
-use mathlib.Core.Bool.{true, false, cond, ◌||◌}
+use Prim.Native.Nat.{ℕ, ◌<◌}
+use mathlib.Core.Bool.{cond, ◌||◌}
 use mathlib.Core.Logic.{◌≢◌}
 use mathlib.Core.Path.{◌≡◌, refl, sym, ap, ◌∙◌}
 use native.Mathlib.Omega.{arith}
 use lib.Dec.{eqb}
 use borrow.Author.Tests.{eq-eqb, ne_eqb}
-use Rattle.model.specs.Finite.{Ref, null, at}
-use Rattle.model.specs.Store.{Op, goes_through}
+use Rattle.model.specs.Finite.{null, at}
+use Rattle.model.specs.Store.{goes_through}
 use Rattle.model.specs.Claim.{op_of}
 use Rattle.model.proofs.Bools.{same_or_not}
 use Rattle.shape.proofs.Numbered.{by_op, no_op}

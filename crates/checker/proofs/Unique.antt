@@ -7,7 +7,6 @@ use lib.ListN.{length}
 use Rattle.model.specs.File.{handed_back}
 use Rattle.model.specs.Verdict as M
 use Rattle.model.specs.Verdict.{Answer, answer, answer_of, verdict, buffer_after}
-use Rattle.claim.specs.Answers.{fault_of}
 use Rattle.claim.proofs.Unique.{case_of, case_back}
 use Rattle.checker.specs.declared.Verdict.{Verdict}
 use Rattle.checker.specs.declared.Verdict.TheVariants.{Accepted, Unreadable, NoEntry, ShortBuffer, Uncovered}

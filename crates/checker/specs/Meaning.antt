@@ -1,6 +1,6 @@
 -- What the checker's answers mean in the definitions.
 use Rattle.std.specs.Prelude.{ℕ, suc, ◌-◌, ◌<◌, Bool, not, cond, List, ◌≡◌, ltb}
-use Rattle.model.specs.Finite.{Ref, null, at, null_ref}
+use Rattle.model.specs.Finite.{null, at, null_ref}
 use Rattle.model.specs.Shape.{Shape, holder}
 use Rattle.model.specs.Format.{format}
 use Rattle.model.specs.File.{Reading, fine, refused, reading, version, shapes, start}

@@ -1,6 +1,7 @@
 // The decision on a claim file: whether every outcome of every listed shape is covered where it leads, and what then holds
 // at each point. The promises stand on `check` and `record`.
 #![tactic(auto)]
+
 ghost use Rattle.std.specs.Prelude.{◌≡◌, length};
 ghost use Rattle.model.specs.File.{handed_back};
 ghost use Rattle.model.specs.Verdict.{verdict, buffer_after};

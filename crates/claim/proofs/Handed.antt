@@ -1,7 +1,7 @@
 -- What the reader hands on, as callers use it.
 use Prim.Native.Nat.{ℕ, suc, ◌+◌, ◌-◌, ◌≤◌, ◌<◌}
 use mathlib.Core.List.{List, []}
-use mathlib.Core.Path.{◌≡◌, refl, sym, ap, ◌∙◌}
+use mathlib.Core.Path.{◌≡◌, refl, ap, ◌∙◌}
 use native.Mathlib.Numerals.{add-one}
 use native.Mathlib.Omega.{arith}
 use borrow.Author.Tests.{lt-ltb, le-ltb}
@@ -9,14 +9,13 @@ use lib.ListN.{length, get_or, take, drop}
 use Rattle.model.specs.Format.{Format, format}
 use Rattle.model.specs.File as model
 use Rattle.model.specs.File.{fine, refused, ◌then◌, version, reading, start, part, handed_back}
-use Rattle.model.proofs.Fields.{then_go}
 use Rattle.model.proofs.Accepted.{body_fine, starts_inside, start_up, shapes_few}
 use Rattle.model.proofs.Tables.{table_at}
 use Rattle.claim.specs.declared.fields.Fault.{Fault}
 use Rattle.claim.specs.declared.fields.Reading.{Reading}
 use Rattle.claim.specs.declared.fields.Reading.TheVariants.{Fine, Refused}
 use Rattle.claim.specs.declared.Claim.{Claim}
-use Rattle.claim.specs.Answers.{fault_of, reading_of}
+use Rattle.claim.specs.Answers.{reading_of}
 use Rattle.claim.specs.Reads.{nothing, starts_of, everything, handed_on, Reads}
 use Rattle.claim.proofs.Answers.{fine_of, goes_on}
 

@@ -1,6 +1,6 @@
 -- One individual of a record as the loop reads it: `here` is where it stands, `before` the variables held by those before
 -- it, `least` the least key that it may have.
-use Prim.Native.Nat.{ℕ, suc, ◌+◌, ◌*◌, ◌%◌}
+use Prim.Native.Nat.{ℕ, ◌+◌, ◌*◌, ◌%◌}
 use mathlib.Core.Bool.{◌&&◌}
 use mathlib.Core.List.{List}
 use mathlib.Core.Path.{◌≡◌, refl}
@@ -10,7 +10,7 @@ use native.Mathlib.Omega.{arith}
 use lib.Bits.{bit_and, bit_or}
 use lib.Dec.{eqb, ltb, leb}
 use Rattle.model.specs.Format.{Format}
-use Rattle.model.specs.File.{Reading, field, wrong_shape, byte, number, individual_at, held, floor, plain, mask_right, flags_right}
+use Rattle.model.specs.File.{field, wrong_shape, byte, number, individual_at, held, floor, plain, mask_right, flags_right}
 
 module _ (F : Format) (f : List ℕ) (bound place i : ℕ) {here before m : ℕ} (p : here ≡ individual_at F place i) (q : before ≡ held F f place i) (e : m ≡ number F.width f here) where
   pub mask_field : field f here F.width wrong_shape (ltb m bound && eqb (bit_and m before) 0) ≡ field f (individual_at F place i) F.width wrong_shape (mask_right F f bound place i)

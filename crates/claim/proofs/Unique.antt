@@ -1,7 +1,7 @@
 -- One answer for each file: the contract of scan leaves no choice. (That of record is an equation already.)
 use Prim.Native.Nat.{ℕ}
 use mathlib.Core.List.{List}
-use mathlib.Core.Path.{◌≡◌, refl, sym, ap, ap₂, ◌∙◌}
+use mathlib.Core.Path.{◌≡◌, refl, sym, ap, ◌∙◌}
 use Rattle.model.specs.Format.{Format}
 use Rattle.model.specs.File as model
 use Rattle.model.specs.File.{fine, refused, cut_short, wrong_mark, wrong_version, beyond_limit, wrong_point, wrong_shape}

@@ -1,6 +1,7 @@
 // The claim file, read a field at a time: refusals 1 to 6 with their places, where each record starts, and the part of
 // the file that holds a record. One pass over the bytes.
 #![tactic(auto)]
+
 ghost use Rattle.std.specs.Prelude.{◌≡◌};
 ghost use Rattle.format.specs.Meaning.{meaning, Sized};
 ghost use Rattle.model.specs.Format.{format};

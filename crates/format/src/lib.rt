@@ -1,6 +1,7 @@
 // A version of the claim file by value: its limits and widths. Reader, engine and checker take one, and have no limit of
 // their own, so that a later version is a further value.
 #![tactic(auto)]
+
 ghost use Rattle.std.specs.Prelude.{◌≡◌};
 ghost use Rattle.format.specs.Meaning.{meaning, Sized};
 ghost use Rattle.model.specs.Format.{version_1, known, format};

@@ -13,7 +13,7 @@ use borrow.Author.Tests.{leb-true, ltb-true, eqb-true}
 use Rattle.model.specs.Store.{Op, stop, go, set_null, set_var, set_new, load, cut, store, is_null, is_same}
 use Rattle.model.specs.Shape.{Allowed}
 use Rattle.model.specs.Format.{Format, format}
-use Rattle.model.specs.File.{fine, operand_right, uses_x, uses_y, uses_s1, uses_s2, byte, within, version, vars, points, head, preamble, point_record, point_records, point_at, shapes, shape_count, size_at, individuals_at, links_at, past, mask, flags, individuals, shape_record, start, point, point_before, shape_records, ended, body, reading, part}
+use Rattle.model.specs.File.{fine, operand_right, uses_x, uses_y, uses_s1, uses_s2, byte, version, vars, points, head, preamble, point_record, point_records, point_at, shapes, shape_count, size_at, individuals_at, links_at, past, mask, flags, shape_record, start, point, point_before, shape_records, ended, body, reading, part}
 use Rattle.model.specs.Claim.{op_of, op_at, claim_of, claim}
 use Rattle.model.proofs.Bools.{by, same_or_not, and_left, and_right}
 use Rattle.model.proofs.Fields.{never, then_left, then_right, field_there, field_right, in_turn_each}

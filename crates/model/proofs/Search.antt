@@ -1,8 +1,8 @@
 -- Searches and counts among the numbers below n: what passing means, and what a loop that goes up knows of them.
 use Prim.Native.Nat.{ℕ, zero, suc, ◌+◌, ◌≤◌, ◌<◌}
 use mathlib.Core.Bool.{Bool, true, false, cond, ◌&&◌, ◌||◌}
-use mathlib.Core.Logic.{◌⊎◌, inl, inr, ◌≢◌}
-use mathlib.Core.Path.{◌≡◌, refl, sym, ap, ap₂, ◌∙◌}
+use mathlib.Core.Logic.{inl, inr, ◌≢◌}
+use mathlib.Core.Path.{◌≡◌, refl, sym, ap, ap₂}
 use native.Mathlib.Numerals.{add-one}
 use native.Mathlib.Omega.{arith}
 use Rattle.model.specs.Finite.{Ref, null, at, null_ref, any, every, count, found, first}

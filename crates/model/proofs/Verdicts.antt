@@ -1,19 +1,18 @@
 -- The verdict case by case, for code that decides in the paper's order: 1 to 6, then 7, 9, 8, and acceptance. And the search
 -- for a lost outcome, result by result.
 use Prim.Native.Nat.{ℕ, zero, suc, ◌+◌, ◌%◌, ◌≤◌, ◌<◌}
-use mathlib.Core.Bool.{Bool, true, false, cond, not, ◌&&◌, ◌||◌}
+use mathlib.Core.Bool.{true, false, not, ◌&&◌}
 use mathlib.Core.List.{List, [], ◌∷◌, ◌++◌}
 use mathlib.Core.Path.{◌≡◌, refl, sym, ap, ◌∙◌}
 use native.Mathlib.Numerals.{add-one}
 use native.Mathlib.Omega.{arith}
-use lib.Dec.{eqb, ltb}
+use lib.Dec.{eqb}
 use lib.ListN.{length, drop}
 use borrow.Author.Tests.{lt-ltb, le-ltb}
-use Rattle.model.specs.Finite.{Ref, null, at, null_ref, any, first, count, each}
+use Rattle.model.specs.Finite.{Ref, null, at, null_ref, any, count, each}
 use Rattle.model.specs.Store.{goes_through}
 use Rattle.model.specs.Shape.{Shape, holder}
-use Rattle.model.specs.Step.{outcomes}
-use Rattle.model.specs.File.{Fault, Reading, fine, refused, reading, points, shapes}
+use Rattle.model.specs.File.{Fault, fine, refused, reading, points, shapes}
 use Rattle.model.specs.Claim.{Claim, claim}
 use Rattle.model.specs.Verdict.{Verdict, accepted, unreadable, no_entry, short_buffer, uncovered, lists_some, covered_there, lost, lost_from, lowest_lost, all_listed, low_part, none_shared, answer_byte, open_points, judged, verdict, table, buffer_after}
 use Rattle.model.proofs.Bools.{by, top_or_below}

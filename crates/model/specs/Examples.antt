@@ -2,7 +2,7 @@
 use Rattle.std.specs.Prelude.{ℕ, ◌/◌, ◌%◌, Bool, true, false, cond, ◌&&◌, List, [], ◌∷◌, map, eqb, length, get_or}
 use Rattle.model.specs.Truth.{Truth, 𝟘, 𝟙, ½}
 use Rattle.model.specs.Store.{Op, set_new, load, cut, store, is_same}
-use Rattle.model.specs.Shape.{Links, Shape}
+use Rattle.model.specs.Shape.{Shape}
 use Rattle.model.specs.Step.{outcomes}
 use Rattle.model.specs.Format.{version_1}
 use Rattle.model.specs.Claim.{record_of}

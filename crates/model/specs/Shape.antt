@@ -2,7 +2,7 @@
 use Rattle.std.specs.Prelude.{ℕ, zero, suc, ◌+◌, ◌*◌, ◌<◌, Bool, true, false, cond, not, ◌&&◌, ◌||◌, ◌≡◌, eqb, ltb}
 use Rattle.std.specs.Bool.{beq}
 use Rattle.model.specs.Truth.{Truth, 𝟘, 𝟙, under}
-use Rattle.model.specs.Finite.{Ref, null, at, is, every, first, bit}
+use Rattle.model.specs.Finite.{Ref, at, is, every, first, bit}
 use Rattle.model.specs.Store.{Store, shared_by}
 
 -- what a shape says of the link: which individuals are shared, and for "each ordered pair .. a link value"

@@ -1,5 +1,5 @@
 -- "One step of a shape": opening, settling, clearing and the ten ops. "Results are listed in the order given here."
-use Rattle.std.specs.Prelude.{ℕ, zero, suc, ◌+◌, Bool, true, false, cond, not, ◌&&◌, ◌||◌, List, [], ◌∷◌, ◌++◌, map, eqb, leb}
+use Rattle.std.specs.Prelude.{ℕ, suc, Bool, true, false, cond, not, ◌&&◌, ◌||◌, List, [], ◌∷◌, ◌++◌, map, eqb, leb}
 use Rattle.model.specs.Truth.{Truth, 𝟘, 𝟙, may, must, half, sure}
 use Rattle.model.specs.Finite.{Ref, null, at, is, null_ref, equal, any, count, given, each, in_each, put}
 use Rattle.model.specs.Store.{Op, stop, go, set_null, set_var, set_new, load, cut, store, is_null, is_same, at_point}

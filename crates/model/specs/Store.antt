@@ -1,5 +1,5 @@
 -- "Stores and runs": what a store is, what each op does to one, and where a run can come to.
-use Rattle.std.specs.Prelude.{ℕ, zero, suc, ◌<◌, Bool, true, false, cond, List, [], ◌∷◌, map, ◌≡◌, eqb, leb}
+use Rattle.std.specs.Prelude.{ℕ, suc, ◌<◌, Bool, false, cond, List, [], ◌∷◌, map, ◌≡◌, eqb, leb}
 use Rattle.model.specs.Finite.{Ref, null, at, is, null_ref, equal, count, ◌∈◌}
 
 -- "A store has finitely many cells", here 0, 1 .. below `size`. "Each of V variables is null or a cell; each cell's

@@ -2,7 +2,7 @@
 -- each result as its successor and its record. They catch slips that T1 to T11 miss: a rest without its outgoing links,
 -- `x = x` moved wrongly, the whole case zeroing v's own link, a sole suspect of op 7 taken for certain. proofs/Worked
 -- computes them, a list at a time: one theorem has a limit of steps.
-use Rattle.std.specs.Prelude.{ℕ, zero, suc, List, [], ◌∷◌, map, get_or}
+use Rattle.std.specs.Prelude.{ℕ, List, [], ◌∷◌, map, get_or}
 use Prim.Native.String.{String}
 use Rattle.model.specs.Text.{parts}
 use Rattle.model.specs.Format.{version_1}

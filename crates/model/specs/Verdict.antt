@@ -1,7 +1,7 @@
 -- The verdict on a file, the paper's number, a and b for each, and the answer bytes.
-use Rattle.std.specs.Prelude.{ℕ, zero, suc, ◌+◌, Bool, true, false, cond, not, ◌&&◌, ◌||◌, List, [], ◌∷◌, ◌++◌, eqb, ltb, length, drop}
+use Rattle.std.specs.Prelude.{ℕ, zero, suc, ◌+◌, Bool, cond, not, ◌&&◌, ◌||◌, List, [], ◌∷◌, ◌++◌, eqb, ltb, length, drop}
 use Rattle.model.specs.Finite.{Ref, null, at, null_ref, any, every, count, first}
-use Rattle.model.specs.Store.{Op, goes_through}
+use Rattle.model.specs.Store.{goes_through}
 use Rattle.model.specs.Shape.{Shape, covered, holder}
 use Rattle.model.specs.Step.{outcomes}
 use Rattle.model.specs.File.{Fault, cut_short, wrong_mark, wrong_version, beyond_limit, wrong_point, wrong_shape, Reading, fine, refused, points, reading}

@@ -1,18 +1,18 @@
 -- What the verdict `accepted` has shown of a file: it was read, and every outcome of every listed shape is covered.
-use Prim.Native.Nat.{ℕ, zero, suc, ◌<◌}
-use mathlib.Core.Bool.{Bool, true, false, cond, not, ◌&&◌, ◌||◌}
+use Prim.Native.Nat.{ℕ, ◌<◌}
+use mathlib.Core.Bool.{Bool, true, false, not}
 use mathlib.Core.List.{List, [], ◌∷◌}
-use mathlib.Core.Path.{◌≡◌, refl, sym, ap, subst, ◌∙◌}
+use mathlib.Core.Path.{◌≡◌, refl, sym, ap, subst}
 use lib.Dec.{eqb, ltb}
 use borrow.Author.Tests.{eqb-true}
-use Rattle.model.specs.Finite.{Ref, null, at, null_ref, any, every, first, given, Some}
-use Rattle.model.specs.Shape.{Shape, covered, Allowed}
+use Rattle.model.specs.Finite.{Ref, null, at, null_ref, given, Some}
+use Rattle.model.specs.Shape.{Shape, covered}
 use Rattle.model.specs.Step.{outcomes}
 use Rattle.model.specs.File.{Reading, fine, refused, reading}
 use Rattle.model.specs.Claim.{Claim, listed, claim}
-use Rattle.model.specs.Verdict.{Verdict, accepted, unreadable, no_entry, short_buffer, uncovered, lists_some, covered_there, lost, lost_from, lowest_lost, all_listed, inductive, judged, judged_if, verdict}
+use Rattle.model.specs.Verdict.{Verdict, accepted, unreadable, no_entry, short_buffer, uncovered, lists_some, covered_there, lost, lost_from, lowest_lost, all_listed, inductive, judged, verdict}
 use Rattle.model.proofs.Bools.{by, clash, and_left, and_right}
-use Rattle.model.proofs.Search.{null_not_at, any_elim, any_intro, every_elim, Firstly, nowhere, first_at, firstly}
+use Rattle.model.proofs.Search.{null_not_at, any_elim, any_intro, every_elim, Firstly, nowhere, firstly}
 use Rattle.model.proofs.Lists.{All, none, also, all_each, all_given, all_weak, all_some, some_each, some_given}
 use Rattle.model.proofs.Accepted.{ops_known, shape_allowed}
 use Rattle.sound.specs.Shown.{Sound}

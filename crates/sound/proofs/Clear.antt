@@ -1,23 +1,22 @@
 -- Clearing and linking respect embeddings. Clearing counts the links into the target: what has 1 in T comes from what has 1
 -- in R, and two of R that may link to it are two of T, or one summary.
-use Prim.Native.Nat.{ℕ, suc, ◌≤◌, ◌<◌}
-use mathlib.Core.Bool.{Bool, true, false, cond, not, ◌&&◌, ◌||◌}
-use mathlib.Core.List.{List, []}
-use mathlib.Core.Logic.{◌⊎◌, inl, inr, ◌≢◌}
-use mathlib.Core.Path.{◌≡◌, refl, sym, ap, subst, ◌∙◌}
+use Prim.Native.Nat.{ℕ, ◌≤◌, ◌<◌}
+use mathlib.Core.Bool.{Bool, true, false, ◌&&◌, ◌||◌}
+use mathlib.Core.Logic.{inl, inr}
+use mathlib.Core.Path.{◌≡◌, sym, ap, subst, ◌∙◌}
 use native.Mathlib.Omega.{arith}
 use lib.Dec.{eqb, leb}
 use borrow.Author.Tests.{eqb-true, eqb-false, eq-eqb, leb-true, leb-false, le-leb}
 use Rattle.model.specs.Truth.{𝟘, 𝟙, may, must}
-use Rattle.model.specs.Finite.{Ref, null, at, any, count}
-use Rattle.model.specs.Shape.{Links, Shape}
-use Rattle.model.specs.Step.{from_u, sure_if, all_zero, ones, mays, summary_may, now_unshared, still_shared, unlinked, opened, cleared, linked}
-use Rattle.model.proofs.Bools.{clash, by, same_or_not, and_left, and_right, and_both, or_cases, or_left, or_right, false_of}
+use Rattle.model.specs.Finite.{Ref}
+use Rattle.model.specs.Shape.{Shape}
+use Rattle.model.specs.Step.{sure_if, all_zero, ones, mays, summary_may, now_unshared, still_shared, unlinked, cleared, linked}
+use Rattle.model.proofs.Bools.{by, same_or_not, and_left, and_right, and_both, or_cases, or_left, or_right, false_of}
 use Rattle.model.proofs.Search.{any_intro, count_some, count_apart, some_count, two_count}
 use Rattle.model.proofs.Lists.{Met, met_append, met_one, met_given, met_cond, met_in_each}
 use Rattle.sound.specs.Order.{◌⊑◌}
 use Rattle.sound.proofs.Order.{⊑_refl, sure_both, up, down}
-use Rattle.sound.specs.Embed.{Carried, Embeds}
+use Rattle.sound.specs.Embed.{Embeds}
 use Rattle.sound.proofs.Embed.{Pin, pin, any_up, none_up, two_down, Next, link_into, shared_at, Aim, to_null, to_at}
 use Rattle.sound.proofs.Links.{into_carried, sharing_carried, set_carried, with_pin, with_next}
 use Rattle.sound.proofs.Open.{opened_met}

@@ -1,16 +1,15 @@
 -- Covering is the embedding that moves nothing, so that it is an order on shapes of any size.
 use Prim.Native.Nat.{ℕ, ◌<◌}
 use mathlib.Core.Bool.{Bool, true, false, not, ◌&&◌, ◌||◌, beq}
-use mathlib.Core.Path.{◌≡◌, refl, sym, ap, ◌∙◌}
+use mathlib.Core.Path.{◌≡◌, refl, ◌∙◌}
 use lib.Dec.{eqb}
 use borrow.Author.Tests.{eqb-true, eq-eqb}
-use Rattle.model.specs.Truth.{Truth, under}
+use Rattle.model.specs.Truth.{under}
 use Rattle.model.specs.Finite.{every}
 use Rattle.model.specs.Shape.{Links, Shape, links_covered, covered_at, covered}
 use Rattle.model.proofs.Bools.{and_left, and_right, and_both, beq_true, eq_beq, same_bool}
 use Rattle.model.proofs.Search.{every_elim, every_intro}
-use Rattle.sound.specs.Order.{◌⊑◌}
-use Rattle.sound.proofs.Order.{⊑_refl, ⊑_trans, under_antisym}
+use Rattle.sound.proofs.Order.{under_antisym}
 use Rattle.sound.specs.Embed.{Carried, Embeds}
 use Rattle.sound.proofs.Embed.{embeds_trans, carried_same}
 

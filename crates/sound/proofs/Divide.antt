@@ -1,7 +1,7 @@
 -- A target is whole or divided: where it alone goes to its place, the whole shapes embed; where others go there too, the
 -- place is a summary, and they embed in the rest.
-use Prim.Native.Nat.{ℕ, zero, suc, ◌<◌}
-use mathlib.Core.Bool.{Bool, true, false, cond, not, ◌&&◌}
+use Prim.Native.Nat.{ℕ, suc, ◌<◌}
+use mathlib.Core.Bool.{true, cond, not, ◌&&◌}
 use mathlib.Core.Logic.{◌≢◌}
 use mathlib.Core.Path.{◌≡◌, refl, sym, ap, ◌∙◌}
 use native.Mathlib.Omega.{arith}
@@ -12,8 +12,8 @@ use Rattle.model.specs.Shape.{Shape}
 use Rattle.model.specs.Step.{whole, copy, divided}
 use Rattle.model.proofs.Bools.{clash, by, same_or_not, top_or_below, and_map, and_false, and_left}
 use Rattle.sound.proofs.Order.{⊑_refl, cond_⊑}
-use Rattle.sound.specs.Embed.{Carried, Embeds}
-use Rattle.sound.proofs.Embed.{Pin, pin, Only, only_eqb, carried_same}
+use Rattle.sound.specs.Embed.{Embeds}
+use Rattle.sound.proofs.Embed.{Pin, pin, Only, only_eqb}
 use Rattle.sound.proofs.Links.{from_carried, copied_carried}
 
 -- ---- whole

@@ -1,18 +1,18 @@
 -- The exact shape of a store: which cells are shared, who holds a variable, and which shapes hold the store, each cell at its
 -- own number.
-use Prim.Native.Nat.{ℕ, suc, ◌≤◌, ◌<◌}
+use Prim.Native.Nat.{ℕ, ◌<◌}
 use mathlib.Core.Bool.{Bool, true, false, cond}
 use mathlib.Core.Logic.{◌≢◌}
 use mathlib.Core.Path.{◌≡◌, refl, sym, ap, ◌∙◌}
 use native.Mathlib.Omega.{arith}
 use lib.Dec.{eqb, leb}
 use borrow.Author.Tests.{eqb-true, eq-eqb, leb-true, leb-false, le-leb}
-use Rattle.model.specs.Truth.{Truth, 𝟘, 𝟙, may, must, sure}
+use Rattle.model.specs.Truth.{𝟘, 𝟙, may, must, sure}
 use Rattle.model.specs.Finite.{Ref, null, at, is, count, bit}
 use Rattle.model.specs.Store.{Store, Proper, shared_by}
-use Rattle.model.specs.Shape.{Links, Shape, holder, own_mask}
+use Rattle.model.specs.Shape.{Shape, holder, own_mask}
 use Rattle.sound.specs.Embed.{Carried, Embeds}
-use Rattle.sound.specs.Exact.{seen, exact}
+use Rattle.sound.specs.Exact.{exact}
 use Rattle.model.proofs.Bools.{by, clash, same_or_not}
 use Rattle.model.proofs.Search.{two_count, count_apart, count_cong, Firstly, nowhere, first_at, firstly}
 use Rattle.sound.proofs.Embed.{embeds_trans, Pin, Next, Aim, to_null, to_at, carried_same}

@@ -1,7 +1,7 @@
 -- Every op: each next store of a store embeds in some result of the store's exact shape, with the same successor.
 use Prim.Native.Nat.{ℕ, suc, ◌<◌}
-use mathlib.Core.Bool.{Bool, true, false, cond, not}
-use mathlib.Core.List.{List, [], ◌∷◌, map}
+use mathlib.Core.Bool.{true, false, cond, not}
+use mathlib.Core.List.{List, map}
 use mathlib.Core.Path.{◌≡◌, refl, sym, ap, subst, ◌∙◌, fun_ext}
 use native.Mathlib.Omega.{arith}
 use lib.Dec.{eqb, leb}
@@ -9,7 +9,7 @@ use borrow.Author.Tests.{eqb-true, eq-eqb, ne_eqb}
 use Rattle.model.specs.Truth.{𝟙, 𝟘}
 use Rattle.model.specs.Finite.{Ref, null, at, is, count, in_each, put, Some, here}
 use Rattle.model.specs.Store.{Store, Proper, shared_by, Op, stop, go, set_null, set_var, set_new, load, cut, store, is_null, is_same, change, with_var, with_link, with_new, through, loads, cuts, stores, at_point, next_stores}
-use Rattle.model.specs.Shape.{Links, Shape, holder, own_mask}
+use Rattle.model.specs.Shape.{Shape, own_mask}
 use Rattle.model.specs.Step.{opened, cleared, linked, moved, grown, fresh, loaded, cut_off, stored, at_holder, results}
 use Rattle.model.proofs.Bools.{clash, by, top_or_below, and_false, false_of}
 use Rattle.model.proofs.Search.{count_cong}

@@ -1,6 +1,6 @@
 -- "So a shape has at most V + 2 individuals": each has its lowest variable, or has none and is unshared, or shared; and no two
 -- have the same of these. So a working shape has at most 11.
-use Prim.Native.Nat.{ℕ, zero, suc, ◌+◌, ◌≤◌, ◌<◌}
+use Prim.Native.Nat.{ℕ, suc, ◌+◌, ◌≤◌, ◌<◌}
 use mathlib.Core.Bool.{Bool, true, false}
 use mathlib.Core.Path.{◌≡◌, refl, sym, ◌∙◌}
 use native.Mathlib.Omega.{arith}

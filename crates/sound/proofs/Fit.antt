@@ -8,8 +8,8 @@ use borrow.Author.Tests.{eqb-true, eq-eqb}
 use Rattle.model.specs.Truth.{Truth, 𝟘, 𝟙, ½, may, must}
 use Rattle.model.specs.Finite.{Ref, null, at, is, null_ref, first}
 use Rattle.model.specs.Store.{Store, Proper, shared_by}
-use Rattle.model.specs.Shape.{Links, Shape, holder, covered, own_mask, Of, Says, Fits, Held, Allowed}
-use Rattle.model.proofs.Bools.{clash, by, and_left, and_right, and_both, false_of, beq_true, eq_beq}
+use Rattle.model.specs.Shape.{Links, Shape, holder, covered, own_mask, Of, Says, Fits, Held}
+use Rattle.model.proofs.Bools.{clash, and_left, and_right, and_both, false_of, beq_true, eq_beq}
 use Rattle.model.proofs.Search.{Firstly, nowhere, first_at, firstly}
 use Rattle.sound.specs.Order.{◌⊑◌}
 use Rattle.sound.proofs.Order.{⊑_refl, ⊑_half, up, down}

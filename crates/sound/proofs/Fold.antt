@@ -1,16 +1,16 @@
 -- Folding: a working shape embeds in its fold, whose link values are the joins of what went in, whose keys ascend, and which
 -- is the least shape of different keys that the working shape embeds in.
 use Prim.Native.Nat.{ℕ, zero, suc, ◌<◌}
-use mathlib.Core.Bool.{Bool, true, false, cond, not, ◌&&◌, ◌||◌}
-use mathlib.Core.List.{List, [], ◌∷◌}
-use mathlib.Core.Logic.{◌⊎◌, inl, inr}
-use mathlib.Core.Path.{◌≡◌, refl, sym, ap, ap₂, subst, ◌∙◌}
+use mathlib.Core.Bool.{true, false, cond, not, ◌&&◌, ◌||◌}
+use mathlib.Core.List.{List}
+use mathlib.Core.Logic.{inl, inr}
+use mathlib.Core.Path.{◌≡◌, sym, ap, ap₂, subst, ◌∙◌}
 use native.Mathlib.Omega.{arith}
 use lib.Dec.{eqb}
 use lib.ListN.{length, get_or}
 use borrow.Author.Tests.{eqb-false, ne_eqb}
 use Rattle.model.specs.Truth.{Truth, join}
-use Rattle.model.specs.Finite.{any, sweep, bit}
+use Rattle.model.specs.Finite.{sweep, bit}
 use Rattle.model.specs.Shape.{Links, Shape, same_key, key_before, Held, Allowed}
 use Rattle.model.specs.Fold.{firsts, joined, went_in, many, folded_links, fold}
 use Rattle.model.proofs.Bools.{clash, by, top_or_below, same_or_not, and_left, and_right, and_both, or_cases, or_left, or_right, not_true, not_false}
@@ -18,7 +18,7 @@ use Rattle.model.proofs.Search.{any_none, any_elim, any_intro, none_any}
 use Rattle.sound.specs.Order.{◌⊑◌}
 use Rattle.sound.proofs.Order.{⊑_refl, ⊑_of, ⊑_trans, join_left, join_right, join_least}
 use Rattle.sound.specs.Embed.{Carried, Embeds}
-use Rattle.sound.proofs.Keys.{same_mask, same_shared, to_same, same_refl, Keyed, before_apart}
+use Rattle.sound.proofs.Keys.{same_mask, same_shared, to_same, Keyed}
 use Rattle.sound.proofs.Firsts.{all_at, ascending_at, firsts_ascending, firsts_low, firsts_all, place, place_low, place_same, place_at, place_cong}
 
 -- ---- a sweep of changes that only go up

@@ -1,7 +1,7 @@
 -- Keys: having one key is an equivalence, key order is a strict total order, and for masks below the weight both are those
 -- of the paper's numbers. The laws about a bit of the key are shown once, for a bit.
 use Prim.Native.Nat.{ℕ, ◌+◌, ◌*◌, ◌<◌}
-use mathlib.Core.Bool.{Bool, true, false, cond, ◌&&◌, beq}
+use mathlib.Core.Bool.{Bool, true, false, cond, beq}
 use mathlib.Core.Logic.{◌≢◌}
 use mathlib.Core.Path.{◌≡◌, refl, sym, ap₂, ◌∙◌}
 use native.Mathlib.Omega.{arith}

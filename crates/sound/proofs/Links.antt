@@ -1,8 +1,7 @@
 -- Changes of links are carried along an embedding: at an individual that alone goes to its place, on both sides at once.
 use Prim.Native.Nat.{ℕ, ◌<◌}
-use mathlib.Core.Bool.{Bool, cond}
+use mathlib.Core.Bool.{Bool}
 use mathlib.Core.Path.{◌≡◌, refl, sym, ap, ap₂, ◌∙◌}
-use lib.Dec.{eqb}
 use borrow.Author.Tests.{eqb-true}
 use Rattle.model.specs.Truth.{Truth}
 use Rattle.model.specs.Shape.{Links, Shape}
@@ -11,7 +10,7 @@ use Rattle.model.proofs.Bools.{cond_cong}
 use Rattle.sound.specs.Order.{◌⊑◌}
 use Rattle.sound.proofs.Order.{⊑_refl, ⊑_of, ⊑_trans, cond_⊑}
 use Rattle.sound.specs.Embed.{Carried, Embeds}
-use Rattle.sound.proofs.Embed.{Pin, pin, Only, only_eqb, Next}
+use Rattle.sound.proofs.Embed.{Pin, Only, only_eqb, Next}
 
 module _ {size : ℕ} {e : ℕ → ℕ} {t i : ℕ} {L M : Links} (o : Only size e t i) (s : Carried size e L M) where
   pub into_carried : (f g : ℕ → Truth → Truth) → ((a b : ℕ) → a < size → b < size → b ≡ t → f a (L.link a b) ⊑ g (e a) (M.link (e a) (e b))) → Carried size e (into t f L) (into i g M)

@@ -1,18 +1,17 @@
 -- The marks of the answer hold of every store that fits a shape listed at the point: each mark is a test that every listed
 -- shape passes, and fit carries it over to the store.
-use Prim.Native.Nat.{ℕ, ◌+◌, ◌/◌, ◌%◌, ◌≤◌, ◌<◌}
-use mathlib.Core.Bool.{Bool, true, false, cond, not}
-use mathlib.Core.List.{List}
-use mathlib.Core.Path.{◌≡◌, refl, sym, ap, ◌∙◌}
+use Prim.Native.Nat.{ℕ, ◌+◌, ◌/◌, ◌%◌, ◌<◌}
+use mathlib.Core.Bool.{true, false, cond, not}
+use mathlib.Core.Path.{◌≡◌, refl, ◌∙◌}
 use native.Mathlib.Omega.{arith}
 use Rattle.model.specs.Finite.{Ref, null, at, null_ref, Some}
-use Rattle.model.specs.Store.{Store, Proper, Op, stop, go, set_null, set_var, set_new, load, cut, store, is_null, is_same, goes_through, null_at, through_null}
-use Rattle.model.specs.Shape.{Shape, Fits, Allowed, holder}
+use Rattle.model.specs.Store.{Store, Proper, Op, stop, go, set_null, set_var, set_new, load, cut, store, is_null, is_same, goes_through, null_at}
+use Rattle.model.specs.Shape.{Fits, holder}
 use Rattle.model.specs.Claim.{Claim, listed}
 use Rattle.model.specs.Verdict.{lists_some, all_listed, low_part, none_shared, answer_byte}
-use Rattle.model.proofs.Bools.{by, clash, not_true}
+use Rattle.model.proofs.Bools.{by, not_true}
 use Rattle.model.proofs.Search.{null_not_at, every_elim}
-use Rattle.model.proofs.Lists.{All, all_some, all_zip}
+use Rattle.model.proofs.Lists.{all_some, all_zip}
 use Rattle.model.proofs.Accepted.{Uses}
 use Rattle.model.proofs.Verdicts.{low_few}
 use Rattle.sound.proofs.Keys.{ascend_keyed}

@@ -1,7 +1,7 @@
 -- Opening and settling respect embeddings: each result of R is met by a result of T, with a target that goes to its target.
 -- Where others go to the target's place too, the divided case meets it: they are the rest, which so is not empty.
 use Prim.Native.Nat.{ℕ, suc, ◌<◌}
-use mathlib.Core.Bool.{Bool, true, false, cond, not, ◌&&◌}
+use mathlib.Core.Bool.{true, cond, not, ◌&&◌}
 use mathlib.Core.List.{List, [], ◌++◌}
 use mathlib.Core.Logic.{◌≢◌}
 use mathlib.Core.Path.{◌≡◌, refl, sym, ap, ◌∙◌}
@@ -10,7 +10,7 @@ use lib.Dec.{eqb}
 use borrow.Author.Tests.{eqb-true, eqb-false, eq-eqb, ne_eqb}
 use Rattle.model.specs.Truth.{𝟘, may, must, half}
 use Rattle.model.specs.Finite.{any}
-use Rattle.model.specs.Shape.{Links, Shape}
+use Rattle.model.specs.Shape.{Shape}
 use Rattle.model.specs.Step.{Opened, whole, copy, divided, sure_but, settled, no_other, possible, divides, targets, opened}
 use Rattle.model.proofs.Bools.{clash, by, and_map, and_left, and_right, and_both, not_true, not_false, false_of}
 use Rattle.model.proofs.Search.{any_none, any_elim, any_intro}
@@ -19,7 +19,7 @@ use Rattle.sound.proofs.Order.{⊑_refl, cond_⊑, sure_sure, half_up, half_of, 
 use Rattle.sound.specs.Embed.{Embeds}
 use Rattle.sound.proofs.Embed.{embeds_trans, Pin, pin, Only, only_eqb, any_up, none_up, Next, link_into, link_from, shared_at, Aim, to_null, to_at}
 use Rattle.sound.proofs.Links.{into_carried, from_carried, with_next, with_pin}
-use Rattle.sound.proofs.Divide.{whole_embeds, whole_pin, target_pin, apart_map, divided_embeds, divided_only, divided_keep, copy_low, copy_rest, halved}
+use Rattle.sound.proofs.Divide.{whole_embeds, whole_pin, target_pin, divided_embeds, divided_only, divided_keep, copy_low, copy_rest, halved}
 
 -- two results go together, and so do their targets
 pub record Aimed (R T : Shape) (e : ℕ → ℕ) (o p : Opened) : Type 0 where

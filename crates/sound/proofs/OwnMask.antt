@@ -4,7 +4,7 @@ use mathlib.Core.Bool.{false, cond}
 use mathlib.Core.Path.{◌≡◌, refl, sym, ap, ap₂, ◌∙◌}
 use native.Mathlib.Omega.{arith}
 use lib.Dec.{eqb, eqb-suc-zero, eqb-zero-suc, eqb-suc-suc}
-use Rattle.model.specs.Finite.{Ref, null, at, is, bit, put}
+use Rattle.model.specs.Finite.{Ref, is, bit, put}
 use Rattle.model.specs.Store.{change}
 use Rattle.model.specs.Shape.{own_mask}
 use Rattle.model.proofs.Masks.{low_digit, high_digits, digit_bit}

@@ -1,17 +1,16 @@
 -- The step respects embeddings: where R embeds in T, each result of R under any op is met by a result of T with the same
 -- successor, in which it embeds.
 use Prim.Native.Nat.{ℕ, suc, ◌<◌}
-use mathlib.Core.Bool.{Bool, true, false, cond, not, ◌&&◌}
-use mathlib.Core.List.{List, map}
+use mathlib.Core.Bool.{true, false, cond, not}
+use mathlib.Core.List.{List}
 use mathlib.Core.Path.{◌≡◌, refl, sym, ap, ap₂, ◌∙◌}
 use native.Mathlib.Omega.{arith}
 use lib.Dec.{eqb}
 use borrow.Author.Tests.{eqb-true, eq-eqb, ne_eqb}
-use Rattle.model.specs.Truth.{𝟘}
 use Rattle.model.specs.Finite.{Ref, null, at, is, null_ref, equal, bit, put}
 use Rattle.model.specs.Store.{Op, stop, go, set_null, set_var, set_new, load, cut, store, is_null, is_same, at_point}
 use Rattle.model.specs.Shape.{Links, Shape, holder, Held}
-use Rattle.model.specs.Step.{opened, cleared, linked, moved, grown, fresh, loaded, cut_off, stored, at_holder, results}
+use Rattle.model.specs.Step.{moved, grown, fresh, loaded, cut_off, stored, at_holder, results}
 use Rattle.model.proofs.Bools.{clash, by, top_or_below, and_right, and_both, not_false, cond_cong}
 use Rattle.model.proofs.Search.{Firstly, nowhere, first_at, firstly}
 use Rattle.model.proofs.Lists.{all_weak, some_weak, Met, met_none, met_one, met_in_each, met_map}

@@ -1,11 +1,11 @@
 -- Runs of a claim whose outcomes are all covered where they lead: every store reached fits a shape listed where it stands.
 use Prim.Native.Nat.{ℕ}
-use mathlib.Core.Path.{◌≡◌, sym, ap, subst, ◌∙◌}
+use mathlib.Core.Path.{sym, ap, subst, ◌∙◌}
 use Rattle.model.specs.Finite.{Some, ◌∈◌}
-use Rattle.model.specs.Store.{Store, Proper, Run, begins, goes_on, next_stores}
+use Rattle.model.specs.Store.{Store, Proper, begins, goes_on, next_stores}
 use Rattle.model.specs.Shape.{Fits}
 use Rattle.model.specs.Claim.{Claim, listed}
-use Rattle.model.proofs.Lists.{All, all_some, all_zip, some_weak}
+use Rattle.model.proofs.Lists.{all_some, all_zip, some_weak}
 use Rattle.sound.specs.Shown.{Sound, FitsOn}
 use Rattle.sound.proofs.Stores.{steps_proper}
 use Rattle.sound.proofs.Fit.{fits_covered}

@@ -1,22 +1,21 @@
 -- Every outcome of a shape is again a shape as the file allows it. A result's individuals stand over those of the shape
 -- before the step, so that variables are held as before; what moves goes to an individual that is no summary; and folding
 -- puts the keys in order.
-use Prim.Native.Nat.{ℕ, zero, suc, ◌+◌, ◌≤◌, ◌<◌}
-use mathlib.Core.Bool.{Bool, true, false, cond, not, ◌&&◌, ◌||◌}
-use mathlib.Core.List.{List, [], map}
+use Prim.Native.Nat.{ℕ, suc, ◌≤◌, ◌<◌}
+use mathlib.Core.Bool.{true, false, cond, not, ◌&&◌, ◌||◌}
+use mathlib.Core.List.{List}
 use mathlib.Core.Logic.{◌≢◌}
 use mathlib.Core.Path.{◌≡◌, refl, sym, ap, ◌∙◌}
 use native.Mathlib.Omega.{arith}
 use lib.Dec.{eqb, leb}
 use borrow.Author.Tests.{eqb-true, eq-eqb, ne_eqb}
 use Rattle.model.specs.Truth.{𝟘, 𝟙, may, must}
-use Rattle.model.specs.Finite.{Ref, null, at, is, any, bit, put, given, each}
+use Rattle.model.specs.Finite.{Ref, null, at, is, any, bit, put}
 use Rattle.model.specs.Store.{Op, stop, go, set_null, set_var, set_new, load, cut, store, is_null, is_same, at_point}
 use Rattle.model.specs.Shape.{Links, Shape, holder, Held, Allowed}
-use Rattle.model.specs.Fold.{fold}
-use Rattle.model.specs.Step.{from, into, sharing, with_n, from_u, sure_but, sure_if, all_zero, ones, mays, summary_may, Opened, whole, copy, divided, settled, possible, divides, targets, opened, now_unshared, still_shared, unlinked, cleared, links_first, links_second, linked, moved, fresh, loaded, cut_off, stored, at_holder, results, outcomes}
+use Rattle.model.specs.Step.{from, into, sharing, with_n, from_u, sure_but, sure_if, all_zero, ones, mays, summary_may, Opened, whole, copy, divided, settled, possible, divides, targets, opened, now_unshared, still_shared, unlinked, cleared, links_first, links_second, linked, moved, fresh, at_holder, results, outcomes}
 use Rattle.model.proofs.Bools.{clash, by, same_or_not, top_or_below, and_false, and_left}
-use Rattle.model.proofs.Search.{Firstly, nowhere, first_at, firstly}
+use Rattle.model.proofs.Search.{Firstly, first_at, firstly}
 use Rattle.model.proofs.Lists.{All, none, also, all_append, all_each, all_cond, all_given, all_weak, all_in_each, all_map}
 use Rattle.model.proofs.Masks.{no_bit, bit_put, bit_put_other}
 use Rattle.model.proofs.Accepted.{Uses}

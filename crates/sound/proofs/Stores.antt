@@ -1,6 +1,6 @@
 -- Stores stay proper: no step makes a variable or a link lead to what is no cell. And going through null has no next store.
-use Prim.Native.Nat.{ℕ, suc, ◌<◌}
-use mathlib.Core.Bool.{Bool, true, false}
+use Prim.Native.Nat.{ℕ, ◌<◌}
+use mathlib.Core.Bool.{true}
 use mathlib.Core.List.{List, []}
 use mathlib.Core.Path.{◌≡◌, refl}
 use native.Mathlib.Omega.{arith}
