@@ -1,5 +1,6 @@
 // The library's face for C: `checker`'s two functions under the names that outside/claims.h declares.
 #![tactic(auto)]
+
 ghost use Rattle.std.specs.Prelude.{◌≡◌, length};
 ghost use Rattle.model.specs.Verdict.{answer, answer_of, verdict, buffer_after};
 ghost use Rattle.checker.specs.Meaning.{handed_place};

@@ -1,6 +1,7 @@
 // What the programs read of an input. The longest claim file has 62,793 bytes, so the first 65,536 bytes decide: every
 // field lies among them, and so does the first extra byte.
 #![tactic(auto)]
+
 ghost use Rattle.std.specs.Prelude.{◌≡◌, IfOk, IfSome, take};
 
 use std::alloc::Allocator;

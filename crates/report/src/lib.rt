@@ -1,6 +1,7 @@
 // Prints the answer on a claim file: `accept a b` and the bytes of the points in decimal on a line of their own, or
 // `refuse number a b`.
 #![tactic(auto)]
+
 ghost use Rattle.std.specs.Prelude.{◌≡◌, ◌≤◌, IfOk};
 ghost use Rattle.model.specs.Verdict.{answer_of, verdict};
 

@@ -1,6 +1,7 @@
 // Runs the reader on file F of document 01, on each of its prefixes, on F with one byte changed, and on the files that the
 // arguments name. Prints for each the number, a and b of refusals 1 to 6, or `read`.
 #![tactic(auto)]
+
 ghost use Rattle.std.specs.Prelude.{length, ◌≡◌};
 
 use claim::fields::{Fault, Reading};
