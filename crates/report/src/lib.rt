@@ -2,15 +2,19 @@
 // `refuse number a b`.
 #![tactic(auto)]
 
-ghost use Rattle.std.specs.Prelude.{◌≡◌, ◌≤◌, IfOk};
+ghost use Rattle.std.specs.Prelude.{◌≡◌, ◌≤◌, ◌++◌, min, codes, slice_index, IfOk, OnOk};
+ghost use Rattle.std.specs.Io.KnownBytes.{Appends};
+ghost use Rattle.model.specs.File.{points};
 ghost use Rattle.model.specs.Verdict.{answer_of, verdict};
+ghost use Rattle.report.specs.Text.{verdict_line, spaced, text_of};
 
 use std::io;
 use std::io::Write;
 
 // N, the number of points, of a file that was accepted.
 fn points(file: &[u8]) -> usize
-    ensures { result ≤ 64 }
+    ensures most { result ≤ 64 }
+    ensures value { result ≡ min (points file.now) 64 }
 {
     if file.len() <= 6 {
         return 0;
@@ -21,6 +25,7 @@ fn points(file: &[u8]) -> usize
 // The bytes of the first n points.
 fn bytes<W: Write>(out: &mut W, answer: &[u8; 64], n: usize) -> io::Result<()>
     requires { n ≤ 64 }
+    ensures { OnOk result (Appends (W.contents out.old) (W.contents out.new) (spaced (slice_index answer.now) n ++ codes "\n")) }
 {
     for p in 0..n {
         if 0 < p {
@@ -33,7 +38,9 @@ fn bytes<W: Write>(out: &mut W, answer: &[u8; 64], n: usize) -> io::Result<()>
 }
 
 // The verdict's line.
-fn line<W: Write>(out: &mut W, number: usize, a: usize, b: usize) -> io::Result<()> {
+fn line<W: Write>(out: &mut W, number: usize, a: usize, b: usize) -> io::Result<()>
+    ensures { OnOk result (Appends (W.contents out.old) (W.contents out.new) (verdict_line number a b)) }
+{
     if number == 0 {
         writeln!(out, "accept {a} {b}")
     } else {
@@ -43,7 +50,8 @@ fn line<W: Write>(out: &mut W, number: usize, a: usize, b: usize) -> io::Result<
 
 // Prints the answer and returns its number.
 pub fn report<W: Write>(out: &mut W, file: &[u8]) -> io::Result<usize>
-    ensures { IfOk result (λ n. n ≡ (answer_of (verdict file.now 64)).number) }
+    ensures number { IfOk result (λ n. n ≡ (answer_of (verdict file.now 64)).number) }
+    ensures text { OnOk result (Appends (W.contents out.old) (W.contents out.new) (text_of (verdict file.now 64) file.now)) }
 {
     let mut answer = [0u8; 64];
     let row = checker::check(file, &mut answer).row();
@@ -53,4 +61,54 @@ pub fn report<W: Write>(out: &mut W, file: &[u8]) -> io::Result<usize>
         bytes(out, &answer, points(file))?;
     }
     Ok(number)
+}
+
+#[cfg(test)]
+mod tests {
+    use super::*;
+    use std::test::Fail;
+
+    // A writer with room for so many bytes more, which it takes one at a time.
+    #[derive(Drop)]
+    struct Short {
+        room: usize,
+    }
+
+    impl Write for Short {
+        fn write(&mut self, buf: &[u8]) -> io::Result<usize> {
+            if buf.is_empty() {
+                return Ok(0);
+            }
+            if self.room == 0 {
+                return Err(io::Error::from(io::ErrorKind::StorageFull));
+            }
+            self.room -= 1;
+            Ok(1)
+        }
+
+        fn flush(&mut self) -> io::Result<()> {
+            Ok(())
+        }
+    }
+
+    // The answer on an empty file, `refuse 1 0 0`, takes 13 bytes; every shorter room ends in the writer's error.
+    #[test]
+    fn short_room(rt: HostRuntime) -> Result<(), Fail> {
+        for room in 0..13 {
+            match report(&mut Short { room }, b"") {
+                Ok(_) => assert!(rt; false, "no error with room for {room}"),
+                Err(error) => assert_eq!(rt; error.kind(), io::ErrorKind::StorageFull),
+            }
+        }
+        assert_eq!(rt; report(&mut Short { room: 13 }, b"")?, 1);
+        Ok(())
+    }
+
+    #[test]
+    fn text_of_empty_file(rt: HostRuntime) -> Result<(), Fail> {
+        let mut out = Vec::new(rt.alloc());
+        report(&mut out, b"")?;
+        assert_eq!(rt; out.as_slice(), b"refuse 1 0 0\n".as_slice());
+        Ok(())
+    }
 }

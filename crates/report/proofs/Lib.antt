@@ -1,0 +1,3 @@
+-- Laws of the printed text.
+pub mod Texts
+pub mod Accepted

@@ -1,0 +1,2 @@
+-- The answer in words.
+pub mod Text
