@@ -16,7 +16,7 @@ use Rattle.checker.specs.declared.search.Lost.TheVariants.{At, Nowhere}
 use Rattle.checker.specs.declared.answers.Test.{Test}
 use Rattle.checker.specs.declared.answers.Test.TheVariants.{Sets, Unshared}
 
--- `answer-of` of the model's Verdict has the paper's number, a and b for each
+-- `answer_of` of the model's Verdict has the paper's number, a and b for each
 abbrev pub verdict_of : Verdict → M.Verdict
 verdict_of (Accepted shapes open_points) = M.accepted shapes open_points
 verdict_of (Unreadable fault place) = M.unreadable (fault_of fault) place

@@ -1,4 +1,4 @@
--- The cases of the reader's answer, and what each says in the definitions; `answer-of` of the model's Verdict has the
+-- The cases of the reader's answer, and what each says in the definitions; `answer_of` of the model's Verdict has the
 -- paper's number, a and b for each.
 use Rattle.model.specs.File as model
 use Rattle.model.specs.File.{fine, refused, cut_short, wrong_mark, wrong_version, beyond_limit, wrong_point, wrong_shape}

@@ -75,7 +75,8 @@ returns-then-here-file c =
     let e : w.i ≡ model.shapes f = rw (← p.shapes) (omega arith) in
     let h = rw e at w.invariant.2 in
     let S = rw e at w.invariant.4 in
-    refuses _ _ _ _ c.refused-then-here-file.ensures refl (goes_on _ S (rw (h, lt-leb _ _ (rw h at c.if-here-file.true)) refl))
+    let l : w.here < length f = c.if-here-file.true in
+    refuses _ _ _ _ c.refused-then-here-file.ensures refl (goes_on _ S (rw (h, lt-leb _ _ (rw h at l)) refl))
 
 pub returns : goal.returns
 unfolding shape_records ended zeros
@@ -86,8 +87,9 @@ returns c =
     let e : w.i ≡ model.shapes f = rw (← p.shapes) (omega arith) in
     let h = rw e at w.invariant.2 in
     let S = rw e at w.invariant.4 in
+    let l : length f ≤ w.here = c.if-here-file.false in
     record {
-      reading = goes_on _ S (rw (le-leb _ _ (rw h at c.if-here-file.false)) refl);
+      reading = goes_on _ S (rw (le-leb _ _ (rw h at l)) refl);
       rest = hands_on _ _ p.vars p.points p.shapes
           (rw (w.invariant.1, w.invariant.2, e, p.shapes) (table_store _ _ (model.shapes f) (let z = p.shapes_few in let y = c.requires.sized.shapes in rw (← p.shapes) (omega arith))));
     }
