@@ -1,18 +1,29 @@
-// What the programs read of an input. The longest claim file has 62,793 bytes, so the first 65,536 bytes decide: every
-// field lies among them, and so does the first extra byte.
+// What the programs read of an input, into memory of their own. The longest claim file has 62,793 bytes, so the first 65,536
+// bytes decide: every field lies among them, and so does the first extra byte.
 #![tactic(auto)]
 
-ghost use Rattle.std.specs.Prelude.{◌≡◌, IfOk, IfSome, take};
+ghost use Rattle.std.specs.Prelude.{◌≤◌, ◌<◌, IfOk, length, take};
+ghost use Rattle.std.specs.Io.KnownBytes.{Consumes, IsAtEnd};
 
-use std::alloc::Allocator;
 use std::io;
 use std::io::Read;
 
-// The first 65,536 bytes of an input, or all of it where it has fewer.
-pub fn first_bytes<R: Read + Drop, A: Allocator>(alloc: A, from: R) -> io::Result<Vec<u8, A>>
-    ensures { IfOk result (λ v. IfSome (R.remaining from) (λ xs. v.items ≡ take 65536 xs)) }
+// Room for the bytes that decide.
+pub const ROOM: usize = 65_536;
+
+// Reads until the buffer is full or the input ends, and returns how many bytes now stand at its front.
+pub fn fill<R: Read>(from: &mut R, buffer: &mut [u8]) -> io::Result<usize>
+    ensures within { IfOk result (λ n. n ≤ length buffer.new) }
+    ensures bytes { IfOk result (λ n. Consumes (R.remaining from.old) (R.remaining from.new) (take n buffer.new)) }
+    ensures end { IfOk result (λ n. n < length buffer.new → IsAtEnd (R.remaining from.new)) }
 {
-    let mut bytes = Vec::new(alloc);
-    from.take(65_536).read_to_end(&mut bytes)?;
-    Ok(bytes)
+    let mut done = 0;
+    while done < buffer.len() {
+        let more = from.read(&mut buffer[done..])?;
+        if more == 0 {
+            return Ok(done);
+        }
+        done += more;
+    }
+    Ok(done)
 }

@@ -5,9 +5,10 @@
 ghost use Rattle.std.specs.Prelude.{◌≡◌, ◌<◌, ◌≤◌, IfOk, length};
 ghost use Rattle.model.specs.Step.{edge};
 
+use input::ROOM;
 use shape::{EDGE, Outcome, Shape, records, stepping};
 use std::io;
-use std::io::{BufWriter, Write};
+use std::io::Write;
 
 // The longest record: k is at most 10.
 const LONGEST: usize = 122;
@@ -208,8 +209,7 @@ fn lines<W: Write>(out: &mut W, text: &[u8]) -> io::Result<()> {
 }
 
 fn main(rt: HostRuntime) -> io::Result<()> {
-    let text = input::first_bytes(rt.alloc(), rt.stdin())?;
-    let mut out = BufWriter::new(rt.alloc(), rt.stdout())?;
-    lines(&mut out, &text)?;
-    out.flush()
+    let mut text = [0u8; ROOM];
+    let n = input::fill(&mut rt.stdin(), &mut text)?;
+    lines(&mut rt.stdout(), &text[..n])
 }

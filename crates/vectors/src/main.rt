@@ -2,9 +2,10 @@
 // arguments name. Prints for each the number, a and b of refusals 1 to 6, or `read`.
 #![tactic(auto)]
 
-ghost use Rattle.std.specs.Prelude.{length, ◌≡◌};
+ghost use Rattle.std.specs.Prelude.{length, ◌≡◌, ◌≤◌, IfOk};
 
 use claim::fields::{Fault, Reading};
+use input::ROOM;
 use std::io::Write;
 use std::rt::Files;
 use std::{env, fs, io};
@@ -76,16 +77,19 @@ fn changes<W: Write>(out: &mut W) -> io::Result<()> {
     Ok(())
 }
 
-fn contents<R: Files + Alloc>(rt: &R, path: &str) -> io::Result<Vec<u8, R::A>> {
-    input::first_bytes(rt.alloc(), fs::open(rt, path)?)
+fn contents(rt: &impl Files, path: &str, room: &mut [u8]) -> io::Result<usize>
+    ensures { IfOk result (λ n. n ≤ length room.new) }
+{
+    input::fill(&mut fs::open(rt, path)?, room)
 }
 
 // A file that can't be read is named on standard error, and the next one follows.
-fn named(rt: &(impl Files + Alloc + Print + Eprint), path: &str) -> io::Result<()> {
-    match contents(rt, path) {
-        Ok(file) => {
+fn named(rt: &(impl Files + Print + Eprint), path: &str) -> io::Result<()> {
+    let mut file = [0u8; ROOM];
+    match contents(rt, path, &mut file) {
+        Ok(n) => {
             print!(rt; "{path}")?;
-            line(&mut io::writer(rt), &file)
+            line(&mut io::writer(rt), &file[..n])
         }
         Err(error) => eprintln!(rt; "{path}: {error}"),
     }
