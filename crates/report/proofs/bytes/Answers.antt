@@ -1,13 +1,14 @@
 -- Another byte is written, after a space unless it is the first.
 use Rattle.std.specs.Prelude.{slice_index}
 use Rattle.report.specs.Text.{spaced}
-use Rattle.report.proofs.Texts.{appends_none, spaced_first, spaced_next}
+use Rattle.std.proofs.KnownBytes.{Appends-nil}
+use Rattle.report.proofs.Texts.{spaced_first, spaced_next}
 use Rattle.report.proofs.bytes.Goals as goal
 use Rattle.report.proofs.bytes.Goals.{then-p-gt0+in_ok-write, else-p-gt0}
 
 pub loop-p-init : goal.loop-p-init
 unfolding spaced
-loop-p-init g c = appends_none (g.W.Write.contents c.args.out.now)
+loop-p-init g c = Appends-nil (g.W.Write.contents c.args.out.now)
 
 pub loop-p-preserved : goal.loop-p-preserved
 loop-p-preserved g c =

@@ -1,7 +1,7 @@
 -- The line and the bytes are those of the definition.
 use Rattle.std.proofs.Common.{◌≡◌, replicate, ap, ◌∙◌, refl}
 use Rattle.model.specs.Verdict.{answer, answer_of, verdict}
-use Rattle.report.proofs.Texts.{appends_then}
+use Rattle.std.proofs.KnownBytes.{Appends-trans}
 use Rattle.report.proofs.Accepted.{text_said}
 use Rattle.report.proofs.report.Goals as goal
 
@@ -12,4 +12,4 @@ returns-in_ok-bytes-clause-text g c =
     c.row-row.ensures ∙ ap answer_of c.check.ensures.exact.0 in
     rw (← text_said c.args.file.now (replicate 64 0) c.check.new.answer c.row-row.result.number c.row-row.result.a c.row-row.result.b c.points.result
     row c.if-number-eq0.true refl c.check.ensures.exact.1 c.points.ensures.value)
-    (appends_then (held c.args.out.now) (held c.line.new.out) (held c.bytes.new.out) _ _ c.in_ok-line.ensures c.in_ok-bytes.ensures)
+    (Appends-trans (held c.args.out.now) (held c.line.new.out) (held c.bytes.new.out) _ _ c.in_ok-line.ensures c.in_ok-bytes.ensures)
