@@ -20,9 +20,7 @@ accepted_few f a b e = few_if (reading f) f a b refl e
 pub spaced_same : (g h : ℕ → ℕ) (n : ℕ) → ((p : ℕ) → p < n → g p ≡ h p) → spaced g n ≡ spaced h n
 unfolding spaced
 spaced_same g h zero same = refl
-spaced_same g h (suc zero) same = rw (same 0 (omega arith))
-spaced_same g h (suc (suc n)) same =
-    rw (same (suc n) (omega arith), spaced_same g h (suc n) (λ p l. same p (omega arith)))
+spaced_same g h (suc n) same = rw (same n (omega arith), spaced_same g h n (λ p l. same p (omega arith)))
 
 pub bytes_said :
     (v : Verdict) (f out bytes : List ℕ) (n : ℕ)

@@ -2,12 +2,13 @@
 // `refuse number a b`.
 #![tactic(auto)]
 
-ghost use Rattle.std.specs.Prelude.{◌≡◌, ◌≤◌, ◌++◌, min, codes, slice_index, IfOk, OnOk};
+ghost use Rattle.std.specs.Prelude.{◌≡◌, ◌≤◌, ◌++◌, min, codes, decimal, slice_index, IfOk, OnOk, OnErr};
 ghost use Rattle.std.specs.Io.KnownBytes.{Appends};
 ghost use Rattle.model.specs.File.{points};
 ghost use Rattle.model.specs.Verdict.{answer_of, verdict};
-ghost use Rattle.report.specs.Text.{verdict_line, spaced, text_of};
+ghost use Rattle.report.specs.Text.{AppendsFront, heading, verdict_line, piece, spaced, text_of};
 
+use itoa::Buffer;
 use std::io;
 use std::io::Write;
 
@@ -22,36 +23,84 @@ fn points(file: &[u8]) -> usize
     usize::from(file[6]).min(64)
 }
 
+// Writes all the bytes.
+fn put<W: Write>(out: &mut W, bytes: &[u8]) -> io::Result<()>
+    ensures ok { OnOk result (Appends (W.contents out.old) (W.contents out.new) bytes.now) }
+    ensures err { OnErr result (AppendsFront (W.contents out.old) (W.contents out.new) bytes.now) }
+{
+    let mut done = 0;
+    while done < bytes.len() {
+        let more = out.write(&bytes[done..])?;
+        if more == 0 {
+            return Err(io::Error::from(io::ErrorKind::WriteZero));
+        }
+        done += more;
+    }
+    Ok(())
+}
+
+// Writes a number in decimal.
+fn decimal<W: Write>(out: &mut W, n: usize) -> io::Result<()>
+    ensures ok { OnOk result (Appends (W.contents out.old) (W.contents out.new) (decimal n)) }
+    ensures err { OnErr result (AppendsFront (W.contents out.old) (W.contents out.new) (decimal n)) }
+{
+    put(out, Buffer::new().format(n).as_bytes())
+}
+
+// The byte of point p, after a space unless it is the first.
+fn piece<W: Write>(out: &mut W, p: usize, byte: u8) -> io::Result<()>
+    ensures ok { OnOk result (Appends (W.contents out.old) (W.contents out.new) (piece p byte)) }
+    ensures err { OnErr result (AppendsFront (W.contents out.old) (W.contents out.new) (piece p byte)) }
+{
+    if p == 0 {
+        return decimal(out, byte as usize);
+    }
+    put(out, b" ")?;
+    decimal(out, byte as usize)
+}
+
 // The bytes of the first n points.
 fn bytes<W: Write>(out: &mut W, answer: &[u8; 64], n: usize) -> io::Result<()>
     requires { n ≤ 64 }
-    ensures { OnOk result (Appends (W.contents out.old) (W.contents out.new) (spaced (slice_index answer.now) n ++ codes "\n")) }
+    ensures ok { OnOk result (Appends (W.contents out.old) (W.contents out.new) (spaced (slice_index answer.now) n ++ codes "\n")) }
+    ensures err { OnErr result (AppendsFront (W.contents out.old) (W.contents out.new) (spaced (slice_index answer.now) n ++ codes "\n")) }
 {
     for p in 0..n {
-        if 0 < p {
-            write!(out, " ")?;
-        }
-        let byte = answer[p];
-        write!(out, "{byte}")?;
+        piece(out, p, answer[p])?;
     }
-    writeln!(out)
+    put(out, b"\n")
+}
+
+// What the verdict's line begins with.
+fn heading<W: Write>(out: &mut W, number: usize) -> io::Result<()>
+    ensures ok { OnOk result (Appends (W.contents out.old) (W.contents out.new) (heading number)) }
+    ensures err { OnErr result (AppendsFront (W.contents out.old) (W.contents out.new) (heading number)) }
+{
+    if number == 0 {
+        return put(out, b"accept ");
+    }
+    put(out, b"refuse ")?;
+    decimal(out, number)?;
+    put(out, b" ")
 }
 
 // The verdict's line.
 fn line<W: Write>(out: &mut W, number: usize, a: usize, b: usize) -> io::Result<()>
-    ensures { OnOk result (Appends (W.contents out.old) (W.contents out.new) (verdict_line number a b)) }
+    ensures ok { OnOk result (Appends (W.contents out.old) (W.contents out.new) (verdict_line number a b)) }
+    ensures err { OnErr result (AppendsFront (W.contents out.old) (W.contents out.new) (verdict_line number a b)) }
 {
-    if number == 0 {
-        writeln!(out, "accept {a} {b}")
-    } else {
-        writeln!(out, "refuse {number} {a} {b}")
-    }
+    heading(out, number)?;
+    decimal(out, a)?;
+    put(out, b" ")?;
+    decimal(out, b)?;
+    put(out, b"\n")
 }
 
-// Prints the answer and returns its number.
+// Prints the answer and returns its number. Where the writer fails, a front of the text has been written.
 pub fn report<W: Write>(out: &mut W, file: &[u8]) -> io::Result<usize>
     ensures number { IfOk result (λ n. n ≡ (answer_of (verdict file.now 64)).number) }
     ensures text { OnOk result (Appends (W.contents out.old) (W.contents out.new) (text_of (verdict file.now 64) file.now)) }
+    ensures err { OnErr result (AppendsFront (W.contents out.old) (W.contents out.new) (text_of (verdict file.now 64) file.now)) }
 {
     let mut answer = [0u8; 64];
     let row = checker::check(file, &mut answer).row();
