@@ -1,6 +1,7 @@
 #!/usr/bin/env python3
 """Turns this repository's own definitions and lemmas to snake case, and its own types to camel case; run once, at the top,
-right after the kit's port script. Names of the library, of src/ (functions, types, strings) and of generated goals stay.
+right after the kit's port script: it stops where no Proof.antt is left, for then that is behind us. Names of the library, of
+src/ (functions, types, strings) and of generated goals stay.
 
 A name is ours if a file of specs/ or proofs/ (a Proof.antt aside) has it and no `use` line of that file brings it from
 outside. It refuses to write if two names would fall together. Comments and quoted text keep their words."""
@@ -122,6 +123,9 @@ def rewrite_clauses(path, names):
 
 def main():
     mine = crates()
+    if not proof_files():
+        print("no Proof.antt is left: this ran before, and would now turn the names of goals", file=sys.stderr)
+        raise SystemExit(1)
     names, clash = map_of(mine)
     if "--list" in sys.argv:
         print("\n".join(f"{a} -> {b}" for a, b in sorted(names.items())))

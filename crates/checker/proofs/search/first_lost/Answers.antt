@@ -84,11 +84,11 @@ returns-after-listed c =
     let p = ap (claim f).op (sym c.point.ensures.0) ∙ sym c.statement_at-here.ensures.is in
     let q = sym c.shape_of-shape.ensures.is in
     let n = places_numbered here.x here.y here.s1 here.s2 W.size here.op in
-    let j-low : w.j < places o W.size = rw (n, ← c.places-count.ensures) c.result-test.true in
-    let t-all : u.t ≡ file.shapes f = rw (← l.shapes) (let x = u.invariant.0 in let y = c.listed-test.false in omega arith) in
+    let j_low : w.j < places o W.size = rw (n, ← c.places-count.ensures) c.result-test.true in
+    let t_all : u.t ≡ file.shapes f = rw (← l.shapes) (let x = u.invariant.0 in let y = c.listed-test.false in omega arith) in
     let out : lost_from (claim f) v.i ≡ at c.outcome-outcome.result.successor =
     sym (lost_all (claim f) o W v.i p q)
     ∙ is_lost (claim f) o W w.j c.outcome-outcome.result c.outcome-outcome.ensures w.invariant.2 (not-false _ c.if-not-outcome.false)
-    (rw t-all at u.invariant.2) (places o W.size) j-low
+    (rw t_all at u.invariant.2) (places o W.size) j_low
     in
     (lowest_at (claim f) v.i _ (rw (← l.shapes) c.claim-test.true) v.invariant.2 out, out)

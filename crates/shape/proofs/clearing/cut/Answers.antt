@@ -18,19 +18,19 @@ use Rattle.model.specs.Step as S
 use Rattle.shape.proofs.clearing.cut.Goals as goal
 use Rattle.shape.proofs.clearing.cut.Goals.{Start}
 
-links-length : (c : Start) → length c.args.s.links ≡ cells
-links-length c = search rules
+links_length : (c : Start) → length c.args.s.links ≡ cells
+links_length c = search rules
 
-flags-length : (c : Start) → length c.args.s.flags ≡ edge
-flags-length c = search rules
+flags_length : (c : Start) → length c.args.s.flags ≡ edge
+flags_length c = search rules
 
 pub returns-then-f-eq0 : goal.returns-then-f-eq0
 returns-then-f-eq0 c =
     let a = c.args in
     let s = a.s in
     let f = get_or s.flags a.t 0 in
-    let y = links-length (goal.at.returns-then-f-eq0 c).Start in
-    let x = flags-length (goal.at.returns-then-f-eq0 c).Start in
+    let y = links_length (goal.at.returns-then-f-eq0 c).Start in
+    let x = flags_length (goal.at.returns-then-f-eq0 c).Start in
     let l = link_set s.links a.u a.t 0 y (omega arith) (omega arith) in
     record {
       is = rw (shared_at s.flags a.t ∙ ne_eqb (f % 2) 1 (λ e. let z = c.if-f-eq0.true in omega arith)) (ap (given (not a.still)) (made_eq refl refl refl refl l));
@@ -42,8 +42,8 @@ returns-then-mays_into-gt1 c =
     let a = c.args in
     let s = a.s in
     let f = get_or s.flags a.t 0 in
-    let y = links-length (goal.at.returns-then-mays_into-gt1 c).Start in
-    let x = flags-length (goal.at.returns-then-mays_into-gt1 c).Start in
+    let y = links_length (goal.at.returns-then-mays_into-gt1 c).Start in
+    let x = flags_length (goal.at.returns-then-mays_into-gt1 c).Start in
     let l = link_set s.links a.u a.t 0 y (omega arith) (omega arith) in
     let d : f % 2 ≢ 0 = c.if-f-eq0.false in
     record {
@@ -59,8 +59,8 @@ returns-then-still c =
     let a = c.args in
     let s = a.s in
     let f = get_or s.flags a.t 0 in
-    let y = links-length (goal.at.returns-then-still c).Start in
-    let x = flags-length (goal.at.returns-then-still c).Start in
+    let y = links_length (goal.at.returns-then-still c).Start in
+    let x = flags_length (goal.at.returns-then-still c).Start in
     let l = link_set s.links a.u a.t 0 y (omega arith) (omega arith) in
     let d : f % 2 ≢ 0 = c.if-f-eq0.false in
     record {
@@ -76,8 +76,8 @@ returns-then-ones-eq1 c =
     let a = c.args in
     let s = a.s in
     let f = get_or s.flags a.t 0 in
-    let y = links-length (goal.at.returns-then-ones-eq1 c).Start in
-    let x = flags-length (goal.at.returns-then-ones-eq1 c).Start in
+    let y = links_length (goal.at.returns-then-ones-eq1 c).Start in
+    let x = flags_length (goal.at.returns-then-ones-eq1 c).Start in
     let l = link_set s.links a.u a.t 0 y (omega arith) (omega arith) in
     let d : f % 2 ≢ 0 = c.if-f-eq0.false in
     record {
@@ -94,8 +94,8 @@ returns c =
     let a = c.args in
     let s = a.s in
     let f = get_or s.flags a.t 0 in
-    let y = links-length (goal.at.returns c).Start in
-    let x = flags-length (goal.at.returns c).Start in
+    let y = links_length (goal.at.returns c).Start in
+    let x = flags_length (goal.at.returns c).Start in
     let l = link_set s.links a.u a.t 0 y (omega arith) (omega arith) in
     let d : f % 2 ≢ 0 = c.if-f-eq0.false in
     record {

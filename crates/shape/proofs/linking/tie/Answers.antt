@@ -17,18 +17,18 @@ use Rattle.shape.specs.Meaning.{cells, column, grid}
 use Rattle.shape.proofs.linking.tie.Goals as goal
 use Rattle.shape.proofs.linking.tie.Goals.{Start}
 
-links-length : (c : Start) → length c.args.s.links ≡ cells
-links-length c = search rules
+links_length : (c : Start) → length c.args.s.links ≡ cells
+links_length c = search rules
 
-flags-length : (c : Start) → length c.args.s.flags ≡ edge
-flags-length c = search rules
+flags_length : (c : Start) → length c.args.s.flags ≡ edge
+flags_length c = search rules
 
 pub returns-then-f-eq1 : goal.returns-then-f-eq1
 returns-then-f-eq1 c =
     let a = c.args in
     let s = a.s in
-    let y = links-length (goal.at.returns-then-f-eq1 c).Start in
-    let x = flags-length (goal.at.returns-then-f-eq1 c).Start in
+    let y = links_length (goal.at.returns-then-f-eq1 c).Start in
+    let x = flags_length (goal.at.returns-then-f-eq1 c).Start in
     record {
       is = rw (shared_at s.flags a.w ∙ eq-eqb _ 1 c.if-f-eq1.true) (ap (given (not a.second)) (made_eq refl refl refl refl (link_set s.links a.u a.w 1 y (omega arith) (omega arith))));
       size = omega arith;
@@ -38,8 +38,8 @@ pub returns-then-second : goal.returns-then-second
 returns-then-second c =
     let a = c.args in
     let s = a.s in
-    let y = links-length (goal.at.returns-then-second c).Start in
-    let x = flags-length (goal.at.returns-then-second c).Start in
+    let y = links_length (goal.at.returns-then-second c).Start in
+    let x = flags_length (goal.at.returns-then-second c).Start in
     let d = c.if-f-eq1.false in
     record {
       is =
@@ -53,8 +53,8 @@ pub returns : goal.returns
 returns c =
     let a = c.args in
     let s = a.s in
-    let y = links-length (goal.at.returns c).Start in
-    let x = flags-length (goal.at.returns c).Start in
+    let y = links_length (goal.at.returns c).Start in
+    let x = flags_length (goal.at.returns c).Start in
     let d = c.if-f-eq1.false in
     let z = c.zero_column.ensures in
     record {

@@ -15,8 +15,8 @@ use Rattle.shape.specs.declared.Place.TheVariants.{At}
 use Rattle.shape.proofs.stepping.closed.Goals as goal
 use Rattle.shape.proofs.stepping.closed.Goals.{After-first_with, In-At}
 
-found-by : (c : After-first_with) → ref c.first_with.result ≡ first c.args.n (λ (i : ℕ). bit (cond (eqb c.args.op 5) c.args.y c.args.x) (mask c.args.masks.now i))
-found-by c = c.first_with.ensures ∙ ap (λ (v : ℕ). first c.args.n (λ (i : ℕ). bit v (mask c.args.masks.now i))) c.gone_through-v.ensures
+found_by : (c : After-first_with) → ref c.first_with.result ≡ first c.args.n (λ (i : ℕ). bit (cond (eqb c.args.op 5) c.args.y c.args.x) (mask c.args.masks.now i))
+found_by c = c.first_with.ensures ∙ ap (λ (v : ℕ). first c.args.n (λ (i : ℕ). bit v (mask c.args.masks.now i))) c.gone_through-v.ensures
 
 low : (c : In-At) → c.in-At.u < edge
 low c =
@@ -40,4 +40,4 @@ returns c =
     let u = c.in-At.u in
     let e : At u ≡ c.first_with.result = cc in
     ap not (c.opens.ensures ∙ ap (opens (made a.n (mask a.masks.now) (summary a.flags.now) (shared a.flags.now) (grid a.links.now)) u) c.opening_place-i.ensures)
-    ∙ ap (λ (r : Ref). shut r (λ u. not (opens (made a.n (mask a.masks.now) (summary a.flags.now) (shared a.flags.now) (grid a.links.now)) u (cond (eqb a.op 5) a.j (cond (eqb a.op 6) (a.j / 2) (a.j / 2 / 2)))))) (ap ref e ∙ found-by (goal.at.returns c).After-first_with)
+    ∙ ap (λ (r : Ref). shut r (λ u. not (opens (made a.n (mask a.masks.now) (summary a.flags.now) (shared a.flags.now) (grid a.links.now)) u (cond (eqb a.op 5) a.j (cond (eqb a.op 6) (a.j / 2) (a.j / 2 / 2)))))) (ap ref e ∙ found_by (goal.at.returns c).After-first_with)
