@@ -30,3 +30,59 @@ pub fn fill<R: Read>(from: &mut R, buffer: &mut [u8]) -> io::Result<usize>
     }
     Ok(done)
 }
+
+#[cfg(test)]
+mod tests {
+    use super::*;
+    use std::test::Fail;
+
+    // Gives one byte at a time, counted down from `left`, and then the end or a failure.
+    #[derive(Drop)]
+    struct Drip {
+        left: u8,
+        fails: bool,
+    }
+
+    impl Read for Drip {
+        fn read(&mut self, buf: &mut [u8]) -> io::Result<usize> {
+            if buf.is_empty() {
+                return Ok(0);
+            }
+            if self.left == 0 {
+                if self.fails {
+                    return Err(io::Error::from(io::ErrorKind::BrokenPipe));
+                }
+                return Ok(0);
+            }
+            buf[0] = self.left;
+            self.left -= 1;
+            Ok(1)
+        }
+    }
+
+    fn read_from(left: u8, fails: bool, buffer: &mut [u8]) -> io::Result<usize> {
+        fill(&mut Drip { left, fails }, buffer)
+    }
+
+    #[test]
+    fn fills(rt: HostRuntime) -> Result<(), Fail> {
+        let mut buffer = [9u8; 4];
+        assert_eq!(rt; read_from(3, false, &mut buffer)?, 3);
+        assert_eq!(rt; buffer, [3, 2, 1, 9]);
+        assert_eq!(rt; read_from(5, true, &mut buffer)?, 4);
+        assert_eq!(rt; buffer, [5, 4, 3, 2]);
+        Ok(())
+    }
+
+    // A failure in mid-stream is told, not taken for the end; what was read stands at the front.
+    #[test]
+    fn failure_is_told(rt: HostRuntime) -> Result<(), Fail> {
+        let mut buffer = [9u8; 4];
+        match read_from(2, true, &mut buffer) {
+            Ok(n) => assert!(rt; false, "no error, but {n}"),
+            Err(error) => assert_eq!(rt; error.kind(), io::ErrorKind::BrokenPipe),
+        }
+        assert_eq!(rt; buffer, [2, 1, 9, 9]);
+        Ok(())
+    }
+}

@@ -1,7 +1,7 @@
 -- What is written piece by piece: all of it, or a front of it where a piece fails.
-use Rattle.std.proofs.Common.{◌≡◌, ℕ, zero, suc, ◌+◌, ◌≤◌, min, List, ◌++◌, codes, decimal, length, take, add-one, refl, sym, ◌∙◌, subst, arith}
+use Rattle.std.proofs.Common.{◌≡◌, ℕ, zero, suc, ◌+◌, ◌≤◌, List, ◌++◌, codes, decimal, length, length-append, take, add-one, refl, sym, subst, arith}
 use Rattle.std.proofs.Math.Seq.{take-append-add}
-use Rattle.std.proofs.lemmas.List.{take_min, take-append-le}
+use Rattle.std.proofs.lemmas.List.{take-append-le}
 use Rattle.std.specs.Prelude.{Option, Result, Ok, Err, OnErr}
 use Rattle.std.specs.Io.KnownBytes.{Appends}
 use Rattle.std.proofs.KnownBytes.{Appends-trans}
@@ -10,14 +10,20 @@ use Rattle.report.specs.Text.{AppendsFront, heading, piece, spaced}
 -- a front of the text is one of a longer text
 pub front_more : {a b : Option (List ℕ)} {xs : List ℕ} (ys : List ℕ) → AppendsFront a b xs → AppendsFront a b (xs ++ ys)
 front_more {a} {b} {xs} ys p =
-    let low : min p.many (length xs) ≤ length xs = omega arith in
-    let same : take (min p.many (length xs)) (xs ++ ys) ≡ take p.many xs = take-append-le (min p.many (length xs)) xs ys low ∙ take_min p.many xs in
-    record { many = min p.many (length xs); front = subst (Appends a b) (sym same) p.front }
+    let low : p.many ≤ length xs = omega arith in
+    record {
+      many = p.many;
+      short = omega (arith, length-append xs ys);
+      front = subst (Appends a b) (sym (take-append-le p.many xs ys low)) p.front;
+    }
 
 -- all of a text, and then a front of the next
 pub front_then : (a : Option (List ℕ)) {b c : Option (List ℕ)} (xs : List ℕ) {ys : List ℕ} → Appends a b xs → AppendsFront b c ys → AppendsFront a c (xs ++ ys)
-front_then a {b} {c} xs {ys} p q =
-    record { many = length xs + q.many; front = subst (Appends a c) (sym (take-append-add xs ys q.many)) (Appends-trans a b c xs (take q.many ys) p q.front) }
+front_then a {b} {c} xs {ys} p q = record {
+  many = length xs + q.many;
+  short = omega (arith, length-append xs ys);
+  front = subst (Appends a c) (sym (take-append-add xs ys q.many)) (Appends-trans a b c xs (take q.many ys) p q.front);
+}
 
 pub on_err : {T E P : Type 0} (r : Result T E) → P → OnErr r P
 on_err (Ok x) p = tt

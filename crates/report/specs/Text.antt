@@ -1,5 +1,5 @@
 -- The answer in words, as it is printed.
-use Rattle.std.specs.Prelude.{ℕ, zero, suc, List, [], ◌++◌, codes, decimal, take, Option}
+use Rattle.std.specs.Prelude.{ℕ, zero, suc, List, [], ◌++◌, codes, decimal, ◌<◌, length, take, Option}
 use Rattle.std.specs.Io.KnownBytes.{Appends}
 use Rattle.model.specs.File.{points}
 use Rattle.model.specs.Claim.{claim}
@@ -31,9 +31,10 @@ bytes_if no_entry f = []
 bytes_if (short_buffer n) f = []
 bytes_if (uncovered i s) f = []
 
--- known bytes have grown by a front of bs
+-- known bytes have grown by a front of bs, and not by all of it
 pub record AppendsFront (old new : Option (List ℕ)) (bs : List ℕ) : Type 0 where
   pub many : ℕ
+  pub short : many < length bs
   pub front : Appends old new (take many bs)
 
 -- the answer on a file whose verdict is v

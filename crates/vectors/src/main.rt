@@ -6,9 +6,13 @@ ghost use Rattle.std.specs.Prelude.{length, ◌≡◌, ◌≤◌, IfOk};
 
 use claim::fields::{Fault, Reading};
 use input::ROOM;
+use std::env::{Env, FillError};
 use std::io::Write;
 use std::rt::Files;
-use std::{env, fs, io};
+use std::{fs, io, str};
+
+// Room for a path.
+const PATH: usize = 4_096;
 
 // "File F, hexadecimal"
 fn file_f() -> [u8; 26]
@@ -95,9 +99,25 @@ fn named(rt: &(impl Files + Print + Eprint), path: &str) -> io::Result<()> {
     }
 }
 
-fn all_named(rt: &HostRuntime) -> io::Result<()> {
-    for path in env::args(rt)?.skip(1) {
-        named(rt, path.as_str())?;
+// The file of argument i; false where there are no more arguments.
+fn argument(rt: &(impl Env + Files + Print + Eprint), i: usize) -> io::Result<bool> {
+    let mut path = [0u8; PATH];
+    match rt.arg(i, &mut path) {
+        Ok(n) => match str::from_utf8(&path[..n]) {
+            Ok(path) => named(rt, path)?,
+            Err(_) => eprintln!(rt; "argument {i}: not UTF-8")?,
+        },
+        Err(FillError::TooLong) => eprintln!(rt; "argument {i}: too long")?,
+        Err(FillError::NotPresent) => return Ok(false),
+    }
+    Ok(true)
+}
+
+fn all_named(rt: &(impl Env + Files + Print + Eprint)) -> io::Result<()> {
+    for i in 1..usize::MAX {
+        if !argument(rt, i)? {
+            return Ok(());
+        }
     }
     Ok(())
 }

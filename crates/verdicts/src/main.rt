@@ -4,8 +4,12 @@
 ghost use Rattle.std.specs.Prelude.{◌≤◌, IfOk, length};
 
 use input::ROOM;
+use std::env::{Env, FillError};
 use std::rt::Files;
-use std::{env, fs, io};
+use std::{fs, io, str};
+
+// Room for a path.
+const PATH: usize = 4_096;
 
 fn contents(rt: &impl Files, path: &str, room: &mut [u8]) -> io::Result<usize>
     ensures { IfOk result (λ n. n ≤ length room.new) }
@@ -26,9 +30,25 @@ fn named(rt: &(impl Files + Print + Eprint), path: &str) -> io::Result<()> {
     }
 }
 
+// The file of argument i; false where there are no more arguments.
+fn argument(rt: &(impl Env + Files + Print + Eprint), i: usize) -> io::Result<bool> {
+    let mut path = [0u8; PATH];
+    match rt.arg(i, &mut path) {
+        Ok(n) => match str::from_utf8(&path[..n]) {
+            Ok(path) => named(rt, path)?,
+            Err(_) => eprintln!(rt; "argument {i}: not UTF-8")?,
+        },
+        Err(FillError::TooLong) => eprintln!(rt; "argument {i}: too long")?,
+        Err(FillError::NotPresent) => return Ok(false),
+    }
+    Ok(true)
+}
+
 fn main(rt: HostRuntime) -> io::Result<()> {
-    for path in env::args(&rt)?.skip(1) {
-        named(&rt, path.as_str())?;
+    for i in 1..usize::MAX {
+        if !argument(&rt, i)? {
+            return Ok(());
+        }
     }
     Ok(())
 }

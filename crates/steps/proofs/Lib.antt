@@ -1,0 +1,2 @@
+-- A law of the records.
+mod Squares
