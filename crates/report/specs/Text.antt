@@ -5,11 +5,12 @@ use Rattle.model.specs.File.{points}
 use Rattle.model.specs.Claim.{claim}
 use Rattle.model.specs.Verdict.{Verdict, accepted, unreadable, no_entry, short_buffer, uncovered, answer_of, answer_byte}
 
--- `accept a b` for the number 0, else `refuse number a b`
+-- what the verdict's line begins with: `accept`, or `refuse` and the number
 abbrev pub heading : ℕ → List ℕ
 heading zero = codes "accept "
 heading (suc n) = codes "refuse " ++ decimal (suc n) ++ codes " "
 
+-- `accept a b` for the number 0, else `refuse number a b`
 abbrev pub verdict_line : ℕ → ℕ → ℕ → List ℕ
 verdict_line number a b = heading number ++ decimal a ++ codes " " ++ decimal b ++ codes "\n"
 
