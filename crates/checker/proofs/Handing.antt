@@ -1,26 +1,28 @@
--- The second call by start and length: case by case, and that it names the part that is handed back.
-use Prim.Native.Nat.{ℕ, suc, ◌-◌, ◌≤◌, ◌<◌}
+-- The second call by start and length: they are those of the place, and name the part that is handed back.
+use Prim.Native.Nat.{ℕ, ◌-◌}
 use mathlib.Core.List.{List}
-use mathlib.Core.Path.{◌≡◌, refl, ap₂}
+use mathlib.Core.Path.{◌≡◌, refl}
 use lib.Dec.{ltb}
 use lib.ListN.{take, drop}
-use borrow.Author.Tests.{lt-ltb, le-ltb}
-use Rattle.model.specs.Format.{format}
-use Rattle.model.specs.File.{Fault, Reading, fine, refused, reading, version, shapes, start, part, handed_back}
+use Rattle.std.specs.Prelude.{unwrap_or}
+use Rattle.std.specs.declared.ops.Range.{Range}
+use Rattle.model.specs.File.{Reading, fine, refused, reading, shapes, part, handed_back}
 use Rattle.model.proofs.Bools.{by}
+use Rattle.claim.specs.Reads.{place_if, place_of}
 use Rattle.checker.specs.Meaning.{handed_place}
+use Rattle.checker.specs.Meaning as checker
 
-pub no_place : (f : List ℕ) (i : ℕ) {w : Fault} {a : ℕ} → reading f ≡ refused w a → (0, 0) ≡ handed_place f i
-unfolding handed_place
-no_place f i e = rw e
+-- a place as start and length, 0 and 0 where there is none
+pub as_handed : (f : List ℕ) (i : ℕ) → let p = unwrap_or (place_of f i) (record { start = 0; end = 0 }) in (p.start, p.end - p.start) ≡ handed_place f i
+unfolding handed_place place_of
+as_handed f i = go (reading f)
+  where
+    nowhere : Range ℕ
+    nowhere = record { start = 0; end = 0 }
 
-pub beyond : (f : List ℕ) (i : ℕ) → reading f ≡ fine → shapes f ≤ i → (0, 0) ≡ handed_place f i
-unfolding handed_place
-beyond f i e h = rw (e, le-ltb i (shapes f) h)
-
-pub inside : (f : List ℕ) (i a b : ℕ) → reading f ≡ fine → i < shapes f → a ≡ start (format (version f)) f i → b ≡ start (format (version f)) f (suc i) → (a, b - a) ≡ handed_place f i
-unfolding handed_place
-inside f i a b e h p q = rw (e, lt-ltb i (shapes f) h) (ap₂ (λ x y. (x, y - x)) p q)
+    go : (r : Reading) → ((unwrap_or (place_if r f i) nowhere).start, (unwrap_or (place_if r f i) nowhere).end - (unwrap_or (place_if r f i) nowhere).start) ≡ checker.place_if r f i
+    go (refused w a) = refl
+    go fine = by (ltb i (shapes f)) (λ q. rw q) (λ q. rw q)
 
 -- so many bytes from there on are the part
 pub place_part : (f : List ℕ) (i : ℕ) → take (handed_place f i).1 (drop (handed_place f i).0 f) ≡ handed_back f i

@@ -8,15 +8,20 @@ use native.Mathlib.Numerals.{add-one}
 use native.Mathlib.Omega.{arith}
 use lib.ListN.{length, get_or, take, drop}
 use borrow.Author.Tests.{ltb-true, eqb-true, lt-ltb}
+use Rattle.std.proofs.lemmas.List.{get_or-take, get_or-drop}
 use Rattle.model.specs.Step.{edge}
 use Rattle.model.specs.Format.{version_1}
 use Rattle.model.specs.File as file
 use Rattle.model.specs.File.{fine, byte, operand_right, uses_x, uses_y, point_at, points, size_at, past, point_record, start, part}
 use Rattle.model.specs.Claim.{op_at, claim}
 use Rattle.model.proofs.Fields.{then_left, then_right, field_there, field_right}
-use Rattle.model.proofs.Accepted.{body_fine, shapes_few, vars_low, start_up, starts_inside, part_exact, size_low, point_low, point_fine}
+use Rattle.model.proofs.Accepted.{body_fine, points_few, shapes_few, vars_low, start_up, starts_inside, part_exact, size_low, point_low, point_fine}
 use Rattle.shape.specs.Records.{Readable}
 use Rattle.checker.specs.Laid.{Laid}
+
+-- a byte of a part that begins at a place
+pub byte_of : (f : List ℕ) (at count k : ℕ) → k < count → get_or (take (at + count - at) (drop at f)) k 0 ≡ byte f (at + k)
+byte_of f at count k h = get_or-take (at + count - at) (drop at f) k 0 (omega arith) ∙ get_or-drop at f k 0
 
 module _ (f starts : List ℕ) (m : ℕ) (l : Laid f starts m) where
   abbrev at : ℕ → ℕ
@@ -24,6 +29,9 @@ module _ (f starts : List ℕ) (m : ℕ) (l : Laid f starts m) where
 
   pub few : m ≤ 512
   few = rw l.shapes (shapes_few version_1 f (body_fine f l.read))
+
+  pub points_low : points f ≤ 64
+  points_low = points_few version_1 f (body_fine f l.read)
 
   -- ---- records
 

@@ -1,35 +1,25 @@
 -- The outcomes of a shape, place by place: what the search knows of those passed, and that all of them together are the
 -- definition's. The engine's outcomes say nothing beyond their individuals, and covering doesn't ask there.
 use Prim.Native.Nat.{ℕ, ◌+◌, ◌<◌}
-use mathlib.Core.Bool.{Bool, true, false, cond, not, ◌&&◌, ◌||◌, beq}
+use mathlib.Core.Bool.{true, false, cond, ◌&&◌}
 use mathlib.Core.List.{List, [], ◌∷◌, map}
 use mathlib.Core.Path.{◌≡◌, refl, sym, ap, ap₂, ◌∙◌}
 use lib.Dec.{eqb}
-use borrow.Author.Tests.{lt-ltb}
-use Rattle.model.specs.Finite.{null, at, any, given, each}
+use Rattle.model.specs.Finite.{null, at, any, each}
 use Rattle.model.specs.Store.{Op}
-use Rattle.model.specs.Shape.{Shape, covered_at, covered}
+use Rattle.model.specs.Shape.{Shape}
 use Rattle.model.specs.Step.{outcomes}
 use Rattle.model.specs.Claim.{Claim}
 use Rattle.model.specs.Verdict.{covered_there, lost, lost_from}
-use Rattle.model.proofs.Search.{every_cong, any_cong, any_intro}
-use Rattle.model.proofs.Verdicts.{lost_none, lost_covered, lost_uncovered, each_more, each_lost}
+use Rattle.model.proofs.Search.{any_cong, any_intro}
+use Rattle.model.proofs.Verdicts.{lost_covered, lost_uncovered, each_more, each_lost}
+use Rattle.std.specs.Prelude.{Option, Some}
 use Rattle.shape.specs.declared.Outcome.{Outcome}
 use Rattle.shape.specs.Meaning.{meaning, trimmed, trimmed_result}
-use Rattle.shape.specs.Slots.{places, outcome_slot, Yields}
+use Rattle.shape.specs.Slots.{places, outcome_slot, out, Yields}
+use Rattle.checker.specs.Laid.{covers_it}
 use Rattle.shape.proofs.Places.{outcomes_placed}
-
--- ---- covering doesn't ask beyond the individuals
-
-module _ (R T : Shape) where
-  inside : (a : ℕ) → a < R.size → covered_at (trimmed R) T a ≡ covered_at R T a
-  inside a h =
-      rw (lt-ltb a R.size h)
-      (ap (λ e. eqb (R.mask a) (T.mask a) && ((not (R.summary a) || T.summary a) && (beq (R.n.shared a) (T.n.shared a) && e)))
-      (every_cong R.size _ _ (λ b k. rw (lt-ltb b R.size k))))
-
-  pub covered_trimmed : covered (trimmed R) T ≡ covered R T
-  covered_trimmed = ap (λ e. eqb R.size T.size && e) (every_cong R.size _ _ inside)
+use Rattle.shape.proofs.Trims.{covered_trimmed}
 
 module _ (C : Claim) where
   there_trimmed : (r : ℕ × Shape) → covered_there C (trimmed_result r) ≡ covered_there C r
@@ -43,34 +33,27 @@ module _ (C : Claim) where
 
   -- ---- one shape's outcomes
 
-  module _ (o : Op) (W : Shape) where
+  module _ (s : Op) (W : Shape) where
     abbrev pub slot : ℕ → List (ℕ × Shape)
-    slot = outcome_slot o W
+    slot = outcome_slot s W
 
-    pub lost_all : (i : ℕ) → C.op (C.point i) ≡ o → C.shape i ≡ W → lost C (each (places o W.size) slot) ≡ lost_from C i
+    pub lost_all : (i : ℕ) → C.op (C.point i) ≡ s → C.shape i ≡ W → lost C (each (places s W.size) slot) ≡ lost_from C i
     unfolding lost_from
-    lost_all i p q = ap (lost C) (outcomes_placed o W) ∙ lost_trimmed (outcomes o W) ∙ ap (lost C) (ap₂ outcomes (sym p) (sym q))
+    lost_all i p q = ap (lost C) (outcomes_placed s W) ∙ lost_trimmed (outcomes s W) ∙ ap (lost C) (ap₂ outcomes (sym p) (sym q))
 
-    -- the outcome at place j, with nothing lost before it
-    module _ (j : ℕ) (r : Outcome) (y : Yields (slot j) r) (before : lost C (each j slot) ≡ null) where
-      pub not_given : r.given ≡ false → lost C (each (j + 1) slot) ≡ null
-      not_given q = each_more C slot j before (ap (lost C) (sym y.is ∙ ap (λ b. given b (r.successor, trimmed (meaning r.shape))) q) ∙ lost_none C)
+    -- at place j, with nothing lost before it
+    module _ (j : ℕ) (before : lost C (each j slot) ≡ null) where
+      module _ (r : Option Outcome) (o : Outcome) (q : r ≡ Some o) (y : Yields (slot j) r) where
+        only : slot j ≡ (o.successor, trimmed (meaning o.shape)) ∷ []
+        only = sym y.is ∙ ap out q
 
-      module _ (q : r.given ≡ true) where
-        -- a listed shape at the successor covers the outcome
-        abbrev pub covers_it : ℕ → Bool
-        covers_it k = eqb (C.point k) r.successor && covered (meaning r.shape) (C.shape k)
-
-        only : slot j ≡ (r.successor, trimmed (meaning r.shape)) ∷ []
-        only = sym y.is ∙ ap (λ b. given b (r.successor, trimmed (meaning r.shape))) q
-
-        there : covered_there C (r.successor, trimmed (meaning r.shape)) ≡ any C.shapes covers_it
+        there : covered_there C (o.successor, trimmed (meaning o.shape)) ≡ any C.shapes (covers_it C o)
         unfolding covered_there
-        there = there_trimmed (r.successor, meaning r.shape)
+        there = there_trimmed (o.successor, meaning o.shape)
 
-        pub is_covered : (k : ℕ) → k < C.shapes → covers_it k ≡ true → lost C (each (j + 1) slot) ≡ null
+        pub is_covered : (k : ℕ) → k < C.shapes → covers_it C o k ≡ true → lost C (each (j + 1) slot) ≡ null
         is_covered k h e =
-            each_more C slot j before (ap (lost C) only ∙ lost_covered C _ (there ∙ any_intro C.shapes covers_it k h e))
+            each_more C slot j before (ap (lost C) only ∙ lost_covered C _ (there ∙ any_intro C.shapes (covers_it C o) k h e))
 
-        pub is_lost : any C.shapes covers_it ≡ false → (n : ℕ) → j < n → lost C (each n slot) ≡ at r.successor
-        is_lost e n h = each_lost C slot n j r.successor h before (ap (lost C) only ∙ lost_uncovered C _ (there ∙ e))
+        pub is_lost : any C.shapes (covers_it C o) ≡ false → (n : ℕ) → j < n → lost C (each n slot) ≡ at o.successor
+        is_lost e n h = each_lost C slot n j o.successor h before (ap (lost C) only ∙ lost_uncovered C _ (there ∙ e))

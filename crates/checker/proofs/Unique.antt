@@ -4,41 +4,43 @@ use Prim.Native.Nat.{ℕ}
 use mathlib.Core.List.{List}
 use mathlib.Core.Path.{◌≡◌, refl, sym, ap, ◌∙◌}
 use lib.ListN.{length}
+use Rattle.std.specs.Prelude.{Result, Ok, Err}
 use Rattle.model.specs.File.{handed_back}
 use Rattle.model.specs.Verdict as M
 use Rattle.model.specs.Verdict.{Answer, answer, answer_of, verdict, buffer_after}
 use Rattle.claim.proofs.Unique.{case_of, case_back}
-use Rattle.checker.specs.declared.Verdict.{Verdict}
-use Rattle.checker.specs.declared.Verdict.TheVariants.{Accepted, Unreadable, NoEntry, ShortBuffer, Uncovered}
+use Rattle.checker.specs.declared.Accepted.{Accepted}
+use Rattle.checker.specs.declared.Refused.{Refused}
+use Rattle.checker.specs.declared.Refused.TheVariants.{Unreadable, NoEntry, ShortBuffer, Uncovered}
 use Rattle.checker.specs.Meaning.{verdict_of, handed_place}
 
 -- ---- the case that means a verdict
 
-meant : M.Verdict → Verdict
-meant (M.accepted a b) = Accepted a b
-meant (M.unreadable fault place) = Unreadable (case_of fault) place
-meant M.no_entry = NoEntry
-meant (M.short_buffer n) = ShortBuffer n
-meant (M.uncovered i s) = Uncovered i s
+meant : M.Verdict → Result Accepted Refused
+meant (M.accepted a b) = Ok record { shapes = a; open_points = b }
+meant (M.unreadable fault place) = Err (Unreadable record { fault = case_of fault; place = place })
+meant M.no_entry = Err NoEntry
+meant (M.short_buffer n) = Err (ShortBuffer n)
+meant (M.uncovered i s) = Err (Uncovered i s)
 
-meant_back : (v : Verdict) → meant (verdict_of v) ≡ v
+meant_back : (v : Result Accepted Refused) → meant (verdict_of v) ≡ v
 unfolding meant
-meant_back (Accepted a b) = refl
-meant_back (Unreadable fault place) = ap (λ w. Unreadable w place) (case_back fault)
-meant_back NoEntry = refl
-meant_back (ShortBuffer n) = refl
-meant_back (Uncovered i s) = refl
+meant_back (Ok a) = refl
+meant_back (Err (Unreadable r)) = ap (λ w. Err (Unreadable record { fault = w; place = r.place })) (case_back r.fault)
+meant_back (Err NoEntry) = refl
+meant_back (Err (ShortBuffer n)) = refl
+meant_back (Err (Uncovered i s)) = refl
 
-pub one_verdict : (r s : Verdict) → verdict_of r ≡ verdict_of s → r ≡ s
+pub one_verdict : (r s : Result Accepted Refused) → verdict_of r ≡ verdict_of s → r ≡ s
 one_verdict r s e = sym (meant_back r) ∙ ap meant e ∙ meant_back s
 
 -- ---- check
 
 -- the verdict r and the buffer x after it, as `exact` has them
-abbrev pub Exact : List ℕ → List ℕ → Verdict → List ℕ → Type 0
+abbrev pub Exact : List ℕ → List ℕ → Result Accepted Refused → List ℕ → Type 0
 Exact f out r x = (verdict_of r ≡ verdict f (length out)) × (x ≡ buffer_after f out)
 
-pub check_unique : (f out : List ℕ) (r s : Verdict) (x y : List ℕ) → Exact f out r x → Exact f out s y → (r ≡ s) × (x ≡ y)
+pub check_unique : (f out : List ℕ) (r s : Result Accepted Refused) (x y : List ℕ) → Exact f out r x → Exact f out s y → (r ≡ s) × (x ≡ y)
 check_unique f out r s x y p q = (one_verdict r s (p.0 ∙ sym q.0), p.1 ∙ sym q.1)
 
 -- ---- record

@@ -7,55 +7,70 @@ ghost use Rattle.model.specs.File.{handed_back};
 ghost use Rattle.model.specs.Verdict.{verdict, buffer_after};
 ghost use Rattle.checker.specs.Meaning.{verdict_of, SafeIfAccepted};
 
-use crate::answers::{fill, open_points};
-use crate::records::lists_some;
-use crate::search::{Lost, first_lost};
-use claim::fields::{Fault, Reading};
+use crate::answers::open_points;
+use crate::records::Listed;
+use claim::fields::Refusal;
 
 mod answers;
 pub mod face;
 mod records;
 mod search;
 
-// The rows of document 01's table: 0 with M and the open points, 1 to 6 with the place, 7, 9 with N, 8 with the shape's
-// number and the successor.
-#[derive(Clone, Copy)]
-pub enum Verdict {
-    Accepted(usize, usize),
-    Unreadable(Fault, usize),
+// The rows of document 01's table. 0: M and the open points.
+#[derive(Clone, Copy, Debug, PartialEq, Eq)]
+pub struct Accepted {
+    pub shapes: usize,
+    pub open_points: usize,
+}
+
+// 1 to 6 with what reading found, 7, 9 with N, 8 with the shape's number and the successor.
+#[derive(Clone, Copy, Debug, PartialEq, Eq)]
+pub enum Refused {
+    Unreadable(Refusal),
     NoEntry,
     ShortBuffer(usize),
     Uncovered(usize, usize),
 }
+
+impl From<Refusal> for Refused {
+    ghost use Rattle.checker.specs.declared.Refused.TheVariants.{Unreadable};
+
+    ghost from_gives = { λ r e. e ≡ Unreadable r };
+
+    fn from(refusal: Refusal) -> Refused {
+        Refused::Unreadable(refusal)
+    }
+}
+
+pub type Verdict = Result<Accepted, Refused>;
 
 // Decides on a file. Acceptance writes the answer's first N bytes; a refusal writes nothing.
 pub fn check(file: &[u8], answer: &mut [u8]) -> Verdict
     ensures exact { (verdict_of result ≡ verdict file.now (length answer.old)) × (answer.new ≡ buffer_after file.now answer.old) }
     ensures safe { SafeIfAccepted result file.now }
 {
-    let claim = claim::scan(file);
-    let reading = claim.reading;
-    let starts = claim.starts;
+    let claim = claim::scan(file)?;
     let points = claim.points;
-    let shapes = claim.shapes;
-    match reading {
-        Reading::Refused(fault, place) => Verdict::Unreadable(fault, place),
-        Reading::Fine => {
-            if !lists_some(file, &starts, shapes, 0) {
-                return Verdict::NoEntry;
-            }
-            if answer.len() < points {
-                return Verdict::ShortBuffer(points);
-            }
-            match first_lost(file, &starts, shapes) {
-                Lost::At(shape, successor) => Verdict::Uncovered(shape, successor),
-                Lost::Nowhere => {
-                    fill(file, &starts, shapes, points, answer);
-                    Verdict::Accepted(shapes, open_points(answer, points))
-                }
-            }
-        }
+    let listed = Listed {
+        file,
+        starts: &claim.starts,
+        shapes: claim.shapes,
+    };
+    if !listed.lists_some(0) {
+        return Err(Refused::NoEntry);
     }
+    if answer.len() < points {
+        return Err(Refused::ShortBuffer(points));
+    }
+    if let Some((shape, successor)) = listed.first_lost() {
+        return Err(Refused::Uncovered(shape, successor));
+    }
+    listed.fill(points, answer);
+    let accepted = Accepted {
+        shapes: claim.shapes,
+        open_points: open_points(&answer[..points]),
+    };
+    Ok(accepted)
 }
 
 // Hands back the part of the file that holds a record.

@@ -1,86 +1,80 @@
 // The records of a file that was read, where they stand: the statement at a point, the point and the shape of a record.
-ghost use Rattle.std.specs.Prelude.{◌≡◌, ◌&&◌, ◌<◌, ◌≤◌, eqb};
-ghost use Rattle.model.specs.File.{points};
+ghost use Rattle.std.specs.Prelude.{◌≡◌, ◌<◌, ◌≤◌};
+ghost use Rattle.model.specs.Format.{version_1};
+ghost use Rattle.model.specs.File.{points, part};
 ghost use Rattle.model.specs.Claim.{claim};
 ghost use Rattle.model.specs.Verdict.{lists_some};
-ghost use Rattle.model.specs.Shape.{covered};
 ghost use Rattle.model.specs.Step.{edge};
-ghost use Rattle.shape.specs.Meaning.{meaning};
-ghost use Rattle.checker.specs.Laid.{Laid, Holds, Stated};
+ghost use Rattle.checker.specs.Laid.{Laid, Holds, stated, covers_it};
 
-use shape::Shape;
+use claim::STARTS;
+use shape::stepping::Statement;
+use shape::{Outcome, Shape};
 
-pub fn wide(b: u8) -> usize
-    ensures { result ≡ b }
-{
-    b as usize
-}
-
-// The statement at a point.
+// A file that was read, with so many shapes, and where the record of each starts: an array with a count beside it, as memory
+// is fixed.
 #[derive(Clone, Copy)]
-pub struct Statement {
-    pub op: u8,
-    pub x: u8,
-    pub y: u8,
-    pub s1: usize,
-    pub s2: usize,
+pub struct Listed<'a> {
+    pub file: &'a [u8],
+    pub starts: &'a [usize; STARTS],
+    pub shapes: usize,
+    ghost laid: { Laid file.now starts.now shapes },
 }
 
-pub fn statement_at(file: &[u8], starts: &[usize; 513], m: usize, p: usize) -> Statement
-    requires { Laid file.now starts.now m × (p < points file.now) }
-    ensures { Stated ((claim file.now).op p) result }
-{
-    let at = 7 + 5 * p;
-    Statement {
-        op: file[at],
-        x: file[at + 1],
-        y: file[at + 2],
-        s1: wide(file[at + 3]),
-        s2: wide(file[at + 4]),
-    }
-}
-
-// The point that lists shape i.
-pub fn point(file: &[u8], starts: &[usize; 513], m: usize, i: usize) -> usize
-    requires { Laid file.now starts.now m × (i < m) }
-    ensures { (result ≡ (claim file.now).point i) × (result < points file.now) }
-{
-    let at = starts[i];
-    wide(file[at])
-}
-
-// Shape i.
-pub fn shape_of(file: &[u8], starts: &[usize; 513], m: usize, i: usize) -> Shape
-    requires { Laid file.now starts.now m × (i < m) }
-    ensures { Holds ((claim file.now).shape i) result }
-{
-    let at = starts[i];
-    let end = starts[i + 1];
-    shape::records::read(&file[at..end], 1)
-}
-
-// Shape i is listed at p and covers s.
-pub fn covers(file: &[u8], starts: &[usize; 513], m: usize, i: usize, p: usize, s: Shape) -> bool
-    requires { Laid file.now starts.now m × (i < m) × (s.n ≤ edge) }
-    ensures { result ≡ (eqb ((claim file.now).point i) p && covered (meaning s) ((claim file.now).shape i)) }
-{
-    let at = starts[i];
-    let end = starts[i + 1];
-    if wide(file[at]) == p {
-        return shape::covering::covered(s, &file[at..end], 1);
-    }
-    false
-}
-
-// Some shape is listed at p.
-pub fn lists_some(file: &[u8], starts: &[usize; 513], m: usize, p: usize) -> bool
-    requires { Laid file.now starts.now m }
-    ensures { result ≡ lists_some (claim file.now) p }
-{
-    for i in 0..m {
-        if point(file, starts, m, i) == p {
-            return true;
+impl Listed<'_> {
+    // The statement at a point.
+    pub fn statement(&self, p: usize) -> Statement
+        requires { p < points self.now.file.now }
+        ensures { stated result ≡ (claim self.now.file.now).op p }
+    {
+        let at = 7 + 5 * p;
+        let record = &self.file[at..at + 5];
+        Statement {
+            op: record[0],
+            x: record[1],
+            y: record[2],
+            s1: usize::from(record[3]),
+            s2: usize::from(record[4]),
         }
     }
-    false
+
+    // The point that lists shape i.
+    pub fn point(&self, i: usize) -> usize
+        requires { i < self.now.shapes }
+        ensures is { result ≡ (claim self.now.file.now).point i }
+        ensures low { result < points self.now.file.now }
+    {
+        usize::from(self.file[self.starts[i]])
+    }
+
+    // The part of the file that holds the record of shape i.
+    fn part(&self, i: usize) -> &[u8]
+        requires { i < self.now.shapes }
+        ensures { result.now ≡ part version_1 self.now.file.now i }
+    {
+        &self.file[self.starts[i]..self.starts[i + 1]]
+    }
+
+    pub fn shape(&self, i: usize) -> Shape
+        requires { i < self.now.shapes }
+        ensures { Holds ((claim self.now.file.now).shape i) result }
+    {
+        shape::records::read(self.part(i), 1)
+    }
+
+    // Shape i is listed where the outcome leads, and covers it.
+    pub fn covers(&self, i: usize, outcome: &Outcome) -> bool
+        requires { (i < self.now.shapes) × (outcome.now.shape.n ≤ edge) }
+        ensures { result ≡ covers_it (claim self.now.file.now) outcome.now i }
+    {
+        self.point(i) == outcome.successor
+            && shape::covering::covered(&outcome.shape, self.part(i), 1)
+    }
+
+    // Some shape is listed at p.
+    pub fn lists_some(&self, p: usize) -> bool
+        ensures { result ≡ lists_some (claim self.now.file.now) p }
+    {
+        (0..self.shapes).any(|i| self.point(i) == p)
+    }
 }

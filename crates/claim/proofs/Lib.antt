@@ -1,7 +1,5 @@
--- Laws of the reader's answers and numbers.
-pub mod Answers
-pub mod Numbers
-pub mod Operands
-pub mod Individuals
+-- Laws of the reader's answers.
+pub mod Steps
+pub mod Next
 pub mod Handed
 pub mod Unique

@@ -1,11 +1,13 @@
 // One field of the file: a number of some bytes, and what becomes of it.
-ghost use Rattle.std.specs.Prelude.{◌≡◌, ◌≤◌, ◌<◌};
+ghost use Rattle.std.specs.Prelude.{◌≡◌, ◌+◌, ◌≤◌, ◌<◌, length, IfOk, IsTrue};
 ghost use Rattle.model.specs.File.{◌then◌, byte, number, within, field};
 ghost use Rattle.model.specs.Verdict.{answer, unreadable, answer_of};
 ghost use Rattle.claim.specs.Answers.{fault_of, reading_of};
 
+use std::fmt;
+
 // What can be wrong with a file: refusals 1 to 6.
-#[derive(Clone, Copy)]
+#[derive(Clone, Copy, Debug, PartialEq, Eq)]
 pub enum Fault {
     CutShort,
     WrongMark,
@@ -15,8 +17,8 @@ pub enum Fault {
     WrongShape,
 }
 
-// A row of the table of answers.
-#[derive(Clone, Copy)]
+// A row of the table of answers, by numbers: C gets it and the programs print it.
+#[derive(Clone, Copy, Debug, PartialEq, Eq)]
 pub struct Row {
     pub number: usize,
     pub a: usize,
@@ -28,113 +30,97 @@ impl Fault {
     pub fn row(self, place: usize) -> Row
         ensures { answer result.number result.a result.b ≡ answer_of (unreadable (fault_of self) place) }
     {
-        match self {
-            Fault::CutShort => Row {
-                number: 1,
-                a: place,
-                b: 0,
-            },
-            Fault::WrongMark => Row {
-                number: 2,
-                a: 0,
-                b: 0,
-            },
-            Fault::WrongVersion => Row {
-                number: 3,
-                a: 3,
-                b: 0,
-            },
-            Fault::BeyondLimit => Row {
-                number: 4,
-                a: place,
-                b: 0,
-            },
-            Fault::WrongPoint => Row {
-                number: 5,
-                a: place,
-                b: 0,
-            },
-            Fault::WrongShape => Row {
-                number: 6,
-                a: place,
-                b: 0,
-            },
-        }
-    }
-}
-
-// What reading comes to: all is right, or a fault at a place.
-#[derive(Clone, Copy)]
-pub enum Reading {
-    Fine,
-    Refused(Fault, usize),
-}
-
-impl Reading {
-    // What is wrong first decides.
-    pub fn then(self, next: Reading) -> Reading
-        ensures { reading_of result ≡ reading_of self then reading_of next }
-    {
-        let Reading::Fine = self else {
-            return self;
+        let (number, a) = match self {
+            Fault::CutShort => (1, place),
+            Fault::WrongMark => (2, 0),
+            Fault::WrongVersion => (3, 3),
+            Fault::BeyondLimit => (4, place),
+            Fault::WrongPoint => (5, place),
+            Fault::WrongShape => (6, place),
         };
-        next
+        Row { number, a, b: 0 }
     }
 }
 
-fn wide(x: u8) -> usize
-    ensures { (result ≡ x) × (result < 256) }
-{
-    x as usize
+// What a file is refused for: a fault at a place.
+#[derive(Clone, Copy, Debug, PartialEq, Eq)]
+pub struct Refusal {
+    pub fault: Fault,
+    pub place: usize,
+}
+
+impl Refusal {
+    // The paper's number, a and b.
+    pub fn row(self) -> Row
+        ensures { answer result.number result.a result.b ≡ answer_of (unreadable (fault_of self.fault) self.place) }
+    {
+        self.fault.row(self.place)
+    }
+}
+
+impl fmt::Display for Row {
+    ghost use Rattle.std.specs.Prelude.{Some};
+    ghost use Rattle.claim.specs.Printed.{row_text};
+
+    ghost output = { λ r. Some (row_text r) };
+
+    fn fmt<W: fmt::Write>(&self, f: &mut fmt::Formatter<W>) -> fmt::Result {
+        let Row { number, a, b } = *self;
+        write!(f, "{number} {a} {b}")
+    }
 }
 
 // The byte at a place; 0 beyond the end, as in the definitions.
 pub fn byte(file: &[u8], place: usize) -> usize
-    ensures { (result ≡ byte file.now place) × (result < 256) }
+    ensures is { result ≡ byte file.now place }
+    ensures low { result < 256 }
 {
-    if place < file.len() {
-        return wide(file[place]);
-    }
-    0
+    file.get(place).map_or(0, |b| usize::from(*b))
 }
 
 // A number of up to two bytes, low byte first.
 pub fn number(file: &[u8], place: usize, width: usize) -> usize
     requires { width ≤ 2 }
-    ensures { (result ≡ number width file.now place) × (result < 65536) }
+    ensures is { result ≡ number width file.now place }
+    ensures low { result < 65536 }
 {
-    if width == 0 {
-        return 0;
+    match width {
+        0 => 0,
+        1 => byte(file, place),
+        _ => byte(file, place) + 256 * byte(file, place.saturating_add(1)),
     }
-    let low = byte(file, place);
-    if width == 1 {
-        return low;
-    }
-    if file.len() <= place {
-        return 0;
-    }
-    low + 256 * byte(file, place + 1)
 }
 
 // From low to high.
 pub fn within(low: usize, v: usize, high: usize) -> bool
     ensures { result ≡ within low v high }
 {
-    (low <= v) & (v <= high)
+    (low..=high).contains(&v)
 }
 
 // A field of so many bytes at a place, which is right or not.
-pub fn field(file: &[u8], place: usize, width: usize, fault: Fault, right: bool) -> Reading
-    ensures { reading_of result ≡ field file.now place width (fault_of fault) right }
+#[tactic(auto, using(crate::proofs::Steps::one_field))]
+pub fn field(
+    file: &[u8],
+    place: usize,
+    width: usize,
+    fault: Fault,
+    right: bool,
+) -> Result<(), Refusal>
+    ensures reading { reading_of result ≡ field file.now place width (fault_of fault) right }
+    ensures there { IfOk result (λ _. place + width ≤ length file.now) }
+    ensures right { IfOk result (λ _. IsTrue right) }
 {
-    if file.len() < width {
-        return Reading::Refused(Fault::CutShort, file.len());
-    }
-    if file.len() - width < place {
-        return Reading::Refused(Fault::CutShort, file.len());
+    let length = file.len();
+    if length < place || length - place < width {
+        return Err(Refusal {
+            fault: Fault::CutShort,
+            place: length,
+        });
     }
     if right {
-        return Reading::Fine;
+        Ok(())
+    } else {
+        Err(Refusal { fault, place })
     }
-    Reading::Refused(fault, place)
 }

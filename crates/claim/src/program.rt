@@ -1,14 +1,14 @@
 // The point records: which operands an op has, and their ranges.
 ghost use Rattle.std.specs.Prelude.{◌≡◌, ◌≤◌};
 ghost use Rattle.format.specs.Meaning.{meaning};
-ghost use Rattle.model.specs.File.{in_turn, field, byte, wrong_point, operand_right, uses_x, uses_y, uses_s1, uses_s2, point_record, point_at};
+ghost use Rattle.model.specs.File.{field, byte, wrong_point, operand_right, uses_x, uses_y, uses_s1, uses_s2, point_record, point_records};
 ghost use Rattle.claim.specs.Answers.{reading_of};
 
-use crate::fields::{Fault, Reading, byte, field};
-use format::Format;
+use crate::fields::{Fault, Refusal, byte, field};
+use crate::reader::Reader;
 
 // Which fields an op uses.
-#[derive(Clone, Copy)]
+#[derive(Clone, Copy, Default)]
 struct Operands {
     x: bool,
     y: bool,
@@ -16,22 +16,18 @@ struct Operands {
     s2: bool,
 }
 
-// Ops 2 to 7 have y where they are odd; so has 9.
+// Ops 2 to 7 have y where they are odd; so has 9. Ranges of the op, for that is a form of document 01.
 fn used_by(op: usize) -> Operands
-    ensures { (result.x ≡ uses_x op) × (result.y ≡ uses_y op) × (result.s1 ≡ uses_s1 op) × (result.s2 ≡ uses_s2 op) }
+    ensures x { result.x ≡ uses_x op }
+    ensures y { result.y ≡ uses_y op }
+    ensures s1 { result.s1 ≡ uses_s1 op }
+    ensures s2 { result.s2 ≡ uses_s2 op }
 {
     match op {
-        0 => Operands {
-            x: false,
-            y: false,
-            s1: false,
-            s2: false,
-        },
+        0 => Operands::default(),
         1 => Operands {
-            x: false,
-            y: false,
             s1: true,
-            s2: false,
+            ..Operands::default()
         },
         2..=7 => Operands {
             x: true,
@@ -49,49 +45,44 @@ fn used_by(op: usize) -> Operands
 }
 
 // A field of a point record: below its bound if it is used, else 0.
-fn operand_right(used: bool, v: usize, bound: usize) -> bool
-    ensures { result ≡ operand_right used v bound }
-{
-    if used { v < bound } else { v == 0 }
-}
-
-fn operand(file: &[u8], place: usize, used: bool, bound: usize) -> Reading
+fn operand(file: &[u8], place: usize, used: bool, bound: usize) -> Result<(), Refusal>
     ensures { reading_of result ≡ field file.now place 1 wrong_point (operand_right used (byte file.now place) bound) }
 {
-    field(
-        file,
-        place,
-        1,
-        Fault::WrongPoint,
-        operand_right(used, byte(file, place), bound),
-    )
+    let v = byte(file, place);
+    let right = if used { v < bound } else { v == 0 };
+    field(file, place, 1, Fault::WrongPoint, right)
 }
 
-// A point record: op, x, y, s1 and s2.
-fn point(form: Format, file: &[u8], vars: usize, points: usize, place: usize) -> Reading
-    requires { place ≤ 65536 }
-    ensures { reading_of result ≡ point_record (meaning form) file.now vars points place }
-{
-    let code = byte(file, place);
-    let has = used_by(code);
-    let op = field(file, place, 1, Fault::WrongPoint, code <= form.ops);
-    let x = operand(file, place + 1, has.x, vars);
-    let y = operand(file, place + 2, has.y, vars);
-    let s1 = operand(file, place + 3, has.s1, points);
-    let s2 = operand(file, place + 4, has.s2, points);
-    op.then(x.then(y.then(s1.then(s2))))
-}
-
-// The point records, which stand after N.
-pub fn program(form: Format, file: &[u8], vars: usize, points: usize) -> Reading
-    requires { points ≤ 255 }
-    ensures { reading_of result ≡ in_turn points (λ p. point_record (meaning form) file.now vars points (point_at p)) }
-{
-    for p in 0..points {
-        let record = point(form, file, vars, points, 7 + 5 * p);
-        let Reading::Fine = record else {
-            return record;
-        };
+impl Reader<'_> {
+    // A point record: op, x, y, s1 and s2.
+    #[tactic(auto, using(crate::proofs::Steps::steps), unfolding(model::specs::File::point_record))]
+    fn point(&self, place: usize) -> Result<(), Refusal>
+        requires { place ≤ 65536 }
+        ensures { reading_of result ≡ point_record (meaning self.now.form) self.now.file.now self.now.vars self.now.points place }
+    {
+        let code = byte(self.file, place);
+        let has = used_by(code);
+        field(
+            self.file,
+            place,
+            1,
+            Fault::WrongPoint,
+            code <= self.form.ops,
+        )?;
+        operand(self.file, place + 1, has.x, self.vars)?;
+        operand(self.file, place + 2, has.y, self.vars)?;
+        operand(self.file, place + 3, has.s1, self.points)?;
+        operand(self.file, place + 4, has.s2, self.points)
     }
-    Reading::Fine
+
+    // The point records, which stand after N.
+    #[tactic(auto, using(crate::proofs::Steps::turns), unfolding(model::specs::File::point_records))]
+    pub fn program(&self) -> Result<(), Refusal>
+        ensures { reading_of result ≡ point_records (meaning self.now.form) self.now.file.now }
+    {
+        for p in 0..self.points {
+            self.point(7 + 5 * p)?;
+        }
+        Ok(())
+    }
 }

@@ -1,5 +1,5 @@
 -- The format of the definitions that a format in code stands for.
-use Rattle.std.specs.Prelude.{◌*◌, ◌≤◌, leb}
+use Rattle.std.specs.Prelude.{◌*◌, leb}
 use Rattle.model.specs.Format as M
 use Rattle.format.specs.declared.Format.{Format}
 
@@ -15,11 +15,3 @@ meaning f = record {
   flags = f.flags;
   links = λ k. k * k;
 }
-
--- what the arrays and numbers of the code have room for
-pub record Sized (f : Format) : Type 0 where
-  pub vars : f.vars ≤ 12
-  pub shapes : f.shapes ≤ 512
-  pub spare : f.spare ≤ 255
-  pub width : f.width ≤ 2
-  pub weight : f.weight ≤ 4096

@@ -2,9 +2,7 @@
 // their own, so that a later version is a further value.
 #![tactic(auto)]
 
-ghost use Rattle.std.specs.Prelude.{◌≡◌};
-ghost use Rattle.format.specs.Meaning.{meaning, Sized};
-ghost use Rattle.model.specs.Format.{version_1, known, format};
+ghost use Rattle.std.specs.Prelude.{◌≤◌};
 
 #[derive(Clone, Copy)]
 pub struct Format {
@@ -22,10 +20,20 @@ pub struct Format {
     pub weight: usize,
     // flags are at most this
     pub flags: usize,
+    // what the arrays and numbers of the code have room for
+    pub ghost vars_room: { vars ≤ 12 },
+    pub ghost shapes_room: { shapes ≤ 512 },
+    pub ghost spare_room: { spare ≤ 255 },
+    pub ghost width_room: { width ≤ 2 },
+    pub ghost weight_room: { weight ≤ 4096 },
 }
 
 impl Format {
-    // The versions that there are, and the format of each.
+    ghost use Rattle.std.specs.Prelude.{◌≡◌};
+    ghost use Rattle.format.specs.Meaning.{meaning};
+    ghost use Rattle.model.specs.Format.{version_1, known, format};
+
+    // The versions that there are, and the format of each. Two functions and no Option: `of` is public and never failed.
     pub fn known(version: usize) -> bool
         ensures { result ≡ known version }
     {
@@ -33,15 +41,13 @@ impl Format {
     }
 
     pub fn of(version: usize) -> Format
-        ensures means { meaning result ≡ format version }
-        ensures fits { Sized result }
+        ensures { meaning result ≡ format version }
     {
         Format::version_1()
     }
 
     pub fn version_1() -> Format
-        ensures means { meaning result ≡ version_1 }
-        ensures fits { Sized result }
+        ensures { meaning result ≡ version_1 }
     {
         Format {
             vars: 8,

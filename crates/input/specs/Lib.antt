@@ -1,2 +1,3 @@
--- What a failed read leaves.
+-- What a failed read leaves, and what calls of a closure come to.
 pub mod Front
+pub mod Calls

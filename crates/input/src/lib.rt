@@ -6,6 +6,8 @@ ghost use Rattle.std.specs.Prelude.{◌≤◌, ◌<◌, IfOk, OnErr, length, tak
 ghost use Rattle.std.specs.Io.KnownBytes.{Consumes, IsAtEnd};
 ghost use Rattle.input.specs.Front.{ConsumesFront};
 
+pub mod arguments;
+
 use std::io;
 use std::io::Read;
 
@@ -20,6 +22,7 @@ pub fn fill<R: Read>(from: &mut R, buffer: &mut [u8]) -> io::Result<usize>
     ensures end { IfOk result (λ n. n < length buffer.new → IsAtEnd (R.remaining from.new)) }
     ensures err { OnErr result (ConsumesFront (R.remaining from.old) (R.remaining from.new) buffer.new) }
 {
+    // by count, which is the result; the library's `read_exact` says too little where the input is shorter
     let mut done = 0;
     while done < buffer.len() {
         let more = from.read(&mut buffer[done..])?;

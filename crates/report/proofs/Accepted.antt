@@ -1,6 +1,7 @@
 -- Of an accepted file the first bytes of the answer buffer are printed, as many as it has points.
-use Rattle.std.proofs.Common.{◌≡◌, ℕ, zero, suc, ◌<◌, ◌≤◌, min, List, ◌++◌, codes, drop, length, refl, sym, ap, ◌∙◌, arith}
+use Rattle.std.proofs.Common.{◌≡◌, ℕ, zero, suc, ◌<◌, ◌≤◌, min, List, ◌++◌, codes, take, drop, length, length-take-le, refl, sym, ap, ◌∙◌, arith}
 use Rattle.std.specs.Prelude.{slice_index}
+use Rattle.std.proofs.lemmas.List.{get_or-take}
 use Rattle.model.specs.File.{Reading, fine, refused, cut_short, wrong_mark, wrong_version, beyond_limit, wrong_point, wrong_shape, reading, points}
 use Rattle.model.specs.Claim.{claim}
 use Rattle.model.specs.Verdict.{Verdict, accepted, unreadable, no_entry, short_buffer, uncovered, Answer, answer, answer_of, answer_byte, judged_if, verdict, written_on, buffer_after}
@@ -21,6 +22,11 @@ pub spaced_same : (g h : ℕ → ℕ) (n : ℕ) → ((p : ℕ) → p < n → g p
 unfolding spaced
 spaced_same g h zero same = refl
 spaced_same g h (suc n) same = rw (same n (omega arith), spaced_same g h n (λ p l. same p (omega arith)))
+
+-- the first bytes of a buffer by themselves
+pub of_front : (bytes : List ℕ) (n : ℕ) → n ≤ length bytes → spaced (slice_index (take n bytes)) (length (take n bytes)) ≡ spaced (slice_index bytes) n
+of_front bytes n h =
+    rw (length-take-le n bytes h) (spaced_same (slice_index (take n bytes)) (slice_index bytes) n (λ p l. get_or-take n bytes p 0 l))
 
 pub bytes_said :
     (v : Verdict) (f out bytes : List ℕ) (n : ℕ)

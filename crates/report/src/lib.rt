@@ -2,12 +2,13 @@
 // `refuse number a b`.
 #![tactic(auto)]
 
-ghost use Rattle.std.specs.Prelude.{◌≡◌, ◌≤◌, ◌++◌, min, codes, decimal, slice_index, IfOk, OnOk, OnErr};
+ghost use Rattle.std.specs.Prelude.{◌≡◌, ◌≤◌, ◌++◌, min, codes, decimal, slice_index, length, IfOk, OnOk, OnErr};
 ghost use Rattle.std.specs.Io.KnownBytes.{Appends};
 ghost use Rattle.model.specs.File.{points};
 ghost use Rattle.model.specs.Verdict.{answer_of, verdict};
 ghost use Rattle.report.specs.Text.{AppendsFront, heading, verdict_line, piece, spaced, text_of};
 
+use claim::fields::Row;
 use itoa::Buffer;
 use std::io;
 use std::io::Write;
@@ -17,24 +18,22 @@ fn points(file: &[u8]) -> usize
     ensures most { result ≤ 64 }
     ensures value { result ≡ min (points file.now) 64 }
 {
-    if file.len() <= 6 {
-        return 0;
-    }
-    usize::from(file[6]).min(64)
+    file.get(6).map_or(0, |n| usize::from(*n).min(64))
 }
 
-// Writes all the bytes.
+// Writes all the bytes. The text is written piece by piece, and not by `write!`, which says nothing of what an error leaves
+// (the clauses `err`).
 fn put<W: Write>(out: &mut W, bytes: &[u8]) -> io::Result<()>
     ensures ok { OnOk result (Appends (W.contents out.old) (W.contents out.new) bytes.now) }
     ensures err { OnErr result (AppendsFront (W.contents out.old) (W.contents out.new) bytes.now) }
 {
-    let mut done = 0;
-    while done < bytes.len() {
-        let more = out.write(&bytes[done..])?;
+    let mut rest = bytes;
+    while !rest.is_empty() {
+        let more = out.write(rest)?;
         if more == 0 {
             return Err(io::Error::from(io::ErrorKind::WriteZero));
         }
-        done += more;
+        rest = &rest[more..];
     }
     Ok(())
 }
@@ -52,21 +51,21 @@ fn piece<W: Write>(out: &mut W, p: usize, byte: u8) -> io::Result<()>
     ensures ok { OnOk result (Appends (W.contents out.old) (W.contents out.new) (piece p byte)) }
     ensures err { OnErr result (AppendsFront (W.contents out.old) (W.contents out.new) (piece p byte)) }
 {
+    let n = usize::from(byte);
     if p == 0 {
-        return decimal(out, byte as usize);
+        return decimal(out, n);
     }
     put(out, b" ")?;
-    decimal(out, byte as usize)
+    decimal(out, n)
 }
 
-// The bytes of the first n points.
-fn bytes<W: Write>(out: &mut W, answer: &[u8; 64], n: usize) -> io::Result<()>
-    requires { n ≤ 64 }
-    ensures ok { OnOk result (Appends (W.contents out.old) (W.contents out.new) (spaced (slice_index answer.now) n ++ codes "\n")) }
-    ensures err { OnErr result (AppendsFront (W.contents out.old) (W.contents out.new) (spaced (slice_index answer.now) n ++ codes "\n")) }
+// The bytes of the points, on a line.
+fn bytes<W: Write>(out: &mut W, answer: &[u8]) -> io::Result<()>
+    ensures ok { OnOk result (Appends (W.contents out.old) (W.contents out.new) (spaced (slice_index answer.now) (length answer.now) ++ codes "\n")) }
+    ensures err { OnErr result (AppendsFront (W.contents out.old) (W.contents out.new) (spaced (slice_index answer.now) (length answer.now) ++ codes "\n")) }
 {
-    for p in 0..n {
-        piece(out, p, answer[p])?;
+    for (p, byte) in answer.iter().enumerate() {
+        piece(out, p, *byte)?;
     }
     put(out, b"\n")
 }
@@ -85,14 +84,14 @@ fn heading<W: Write>(out: &mut W, number: usize) -> io::Result<()>
 }
 
 // The verdict's line.
-fn line<W: Write>(out: &mut W, number: usize, a: usize, b: usize) -> io::Result<()>
-    ensures ok { OnOk result (Appends (W.contents out.old) (W.contents out.new) (verdict_line number a b)) }
-    ensures err { OnErr result (AppendsFront (W.contents out.old) (W.contents out.new) (verdict_line number a b)) }
+fn line<W: Write>(out: &mut W, row: Row) -> io::Result<()>
+    ensures ok { OnOk result (Appends (W.contents out.old) (W.contents out.new) (verdict_line row.number row.a row.b)) }
+    ensures err { OnErr result (AppendsFront (W.contents out.old) (W.contents out.new) (verdict_line row.number row.a row.b)) }
 {
-    heading(out, number)?;
-    decimal(out, a)?;
+    heading(out, row.number)?;
+    decimal(out, row.a)?;
     put(out, b" ")?;
-    decimal(out, b)?;
+    decimal(out, row.b)?;
     put(out, b"\n")
 }
 
@@ -103,13 +102,12 @@ pub fn report<W: Write>(out: &mut W, file: &[u8]) -> io::Result<usize>
     ensures err { OnErr result (AppendsFront (W.contents out.old) (W.contents out.new) (text_of (verdict file.now 64) file.now)) }
 {
     let mut answer = [0u8; 64];
-    let row = checker::check(file, &mut answer).row();
-    let number = row.number;
-    line(out, number, row.a, row.b)?;
-    if number == 0 {
-        bytes(out, &answer, points(file))?;
+    let row = checker::face::row(checker::check(file, &mut answer));
+    line(out, row)?;
+    if row.number == 0 {
+        bytes(out, &answer[..points(file)])?;
     }
-    Ok(number)
+    Ok(row.number)
 }
 
 #[cfg(test)]

@@ -1,14 +1,15 @@
 -- Masks and flags: one entry set, and shapes equal part by part.
-use Prim.Native.Nat.{ℕ, zero, suc, ◌+◌, ◌-◌, ◌*◌, ◌/◌, ◌%◌, ◌<◌}
+use Prim.Native.Nat.{ℕ, zero, suc, ◌+◌, ◌-◌, ◌*◌, ◌/◌, ◌%◌, ◌<◌, ◌≤◌}
 use mathlib.Core.Bool.{Bool, true, false, cond, not, ◌&&◌}
 use mathlib.Core.List.{List}
 use mathlib.Core.Logic.{◌≢◌}
 use mathlib.Core.Path.{◌≡◌, refl, sym, ap, ◌∙◌, fun_ext}
 use native.Mathlib.Omega.{arith}
 use lib.Dec.{eqb, ltb}
-use lib.ListN.{get_or, set, length, replicate}
-use lib.Seq.{get_or-set_same, get_or-set_other}
+use lib.ListN.{get_or, set, length, replicate, take}
+use lib.Seq.{get_or-set_same, get_or-set_other, get_or-take, length-take-le}
 use borrow.Author.Tests.{eqb-true, eqb-false, eq-eqb, ne_eqb}
+use mir.Val.{bool_byte}
 use Rattle.model.specs.Truth.{Truth, 𝟘, truth}
 use Rattle.model.specs.Step.{edge, copy}
 use Rattle.model.proofs.Bools.{by}
@@ -68,32 +69,34 @@ pub mask_at : (l : List ℕ) (a : ℕ) → get_or l a 0 ≡ mask l a
 unfolding mask
 mask_at l a = refl
 
+-- the first n of an array
+module _ (l : List ℕ) (n : ℕ) (h : n ≤ length l) where
+  pub front_length : length (take n l) ≡ n
+  front_length = length-take-le n l h
+
+  pub front_at : (a : ℕ) → a < length (take n l) → get_or (take n l) a 0 ≡ mask l a
+  front_at a i = get_or-take n l a 0 (omega (arith, front_length)) ∙ mask_at l a
+
 -- the shared bit is taken away, or given
-module _ (f : List ℕ) (t : ℕ) (h : t < length f) where
-  pub taken_shared : get_or f t 0 % 2 ≢ 0 → shared (set f t (get_or f t 0 - 1)) ≡ (λ a. cond (eqb a t) false (shared f a))
-  taken_shared d = shared_set f t (get_or f t 0 - 1) h ∙ ap (λ (b : Bool). λ (a : ℕ). cond (eqb a t) b (shared f a)) (ne_eqb ((get_or f t 0 - 1) % 2) 1 (λ e. d (omega arith)))
+module _ (f : List ℕ) (t : ℕ) (h : t < length f) (b : Bool) where
+  abbrev shared_as : ℕ
+  shared_as = get_or f t 0 - get_or f t 0 % 2 + bool_byte b
 
-  pub taken_summary : get_or f t 0 % 2 ≢ 0 → summary (set f t (get_or f t 0 - 1)) ≡ summary f
-  taken_summary d =
-      summary_set f t (get_or f t 0 - 1) h
-      ∙ same_entry (summary f) t (eqb ((get_or f t 0 - 1) / 2 % 2) 1) (ap (λ x. eqb x 1) (let z : (get_or f t 0 - 1) / 2 % 2 ≡ get_or f t 0 / 2 % 2 = odd_less (get_or f t 0) d in z) ∙ sym (summary_at f t))
+  pub put_shared : shared (set f t shared_as) ≡ (λ a. cond (eqb a t) b (shared f a))
+  put_shared = shared_set f t shared_as h ∙ ap (λ (c : Bool). λ (a : ℕ). cond (eqb a t) c (shared f a)) (low_bit (get_or f t 0) b)
     where
-      odd_less : (x : ℕ) → x % 2 ≢ 0 → (x - 1) / 2 % 2 ≡ x / 2 % 2
-      odd_less x d = omega arith
+      low_bit : (x : ℕ) (b : Bool) → eqb ((x - x % 2 + bool_byte b) % 2) 1 ≡ b
+      low_bit x true = eq-eqb ((x - x % 2 + 1) % 2) 1 (omega arith)
+      low_bit x false = ne_eqb ((x - x % 2 + 0) % 2) 1 (λ e. omega arith)
 
-  pub given_shared : get_or f t 0 % 2 ≢ 1 → shared (set f t (get_or f t 0 + 1)) ≡ (λ a. cond (eqb a t) true (shared f a))
-  given_shared d = shared_set f t (get_or f t 0 + 1) h ∙ ap (λ (b : Bool). λ (a : ℕ). cond (eqb a t) b (shared f a)) (eq-eqb ((get_or f t 0 + 1) % 2) 1 (even_more (get_or f t 0) d))
+  pub put_summary : summary (set f t shared_as) ≡ summary f
+  put_summary =
+      summary_set f t shared_as h
+      ∙ same_entry (summary f) t (eqb (shared_as / 2 % 2) 1) (ap (λ (x : ℕ). eqb (x % 2) 1) (high_bits (get_or f t 0) b) ∙ sym (summary_at f t))
     where
-      even_more : (x : ℕ) → x % 2 ≢ 1 → (x + 1) % 2 ≡ 1
-      even_more x d = omega arith
-
-  pub given_summary : get_or f t 0 % 2 ≢ 1 → summary (set f t (get_or f t 0 + 1)) ≡ summary f
-  given_summary d =
-      summary_set f t (get_or f t 0 + 1) h
-      ∙ same_entry (summary f) t (eqb ((get_or f t 0 + 1) / 2 % 2) 1) (ap (λ x. eqb x 1) (even_more (get_or f t 0) d) ∙ sym (summary_at f t))
-    where
-      even_more : (x : ℕ) → x % 2 ≢ 1 → (x + 1) / 2 % 2 ≡ x / 2 % 2
-      even_more x d = ap (λ y. y % 2) (let z : (x + 1) / 2 ≡ x / 2 = omega arith in z)
+      high_bits : (x : ℕ) (b : Bool) → (x - x % 2 + bool_byte b) / 2 ≡ x / 2
+      high_bits x true = omega arith
+      high_bits x false = omega arith
 
 -- ---- nothing yet
 

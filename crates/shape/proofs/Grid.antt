@@ -1,4 +1,4 @@
--- The matrix of link values: one value set, and loops down a column or along a row.
+-- The matrix of link values: one value set, and loops down a column.
 use Prim.Native.Nat.{ℕ, ◌+◌, ◌*◌, ◌<◌, ◌≤◌}
 use mathlib.Core.Bool.{Bool, true, false, cond, ◌&&◌}
 use mathlib.Core.List.{List}
@@ -93,9 +93,6 @@ module _ (t : ℕ) (new old : ℕ → ℕ → Truth) where
       let e : a ≡ edge = omega arith in
       inv.1 ∙ fun_ext (λ x. fun_ext (λ b. rw e (by (ltb x edge) (λ q. rw q) (λ q. rw q (sym (f x b (ltb-false x edge q)))))))
 
-  pub down_none : (r : List ℕ) → length r ≡ cells → grid r ≡ old → Down 0 r
-  down_none r z e = (z, e ∙ fun_ext (λ x. fun_ext (λ b. rw (le-ltb x 0 (omega arith)))))
-
   pub down_next : (r : List ℕ) (a v : ℕ) → a < edge → t < edge → ((x b : ℕ) → b ≢ t → new x b ≡ old x b) → truth v ≡ new a t → Down a r → Down (a + 1) (set r (a * edge + t) v)
   down_next r a v h k f w inv = (
     length-set r (a * edge + t) v ∙ inv.0,
@@ -106,48 +103,11 @@ module _ (t : ℕ) (new old : ℕ → ℕ → Truth) where
         (λ q. same_both (ltb x a) (ltb x (a + 1)) (f x b (eqb-false b t q)))),
   )
 
--- a loop along row u; the columns left of j are done
-module _ (u : ℕ) (new old : ℕ → ℕ → Truth) where
-  abbrev pub Along : ℕ → List ℕ → Type 0
-  Along j r = (length r ≡ cells) × (grid r ≡ mixed (λ x b. ltb b j) new old)
-
-  pub along_none : (r : List ℕ) → length r ≡ cells → grid r ≡ old → Along 0 r
-  along_none r z e = (z, e ∙ fun_ext (λ x. fun_ext (λ b. rw (le-ltb b 0 (omega arith)))))
-
-  pub along_read : (r : List ℕ) (a j : ℕ) → a < edge → j < edge → Along j r → truth (get_or r (a * edge + j) 0) ≡ old a j
-  along_read r a j h k inv = grid_at r a j h k ∙ ap (λ g. g a j) inv.1 ∙ rw (le-ltb j j (omega arith))
-
-  pub along_next : (r : List ℕ) (j v : ℕ) → u < edge → j < edge → ((x b : ℕ) → x ≢ u → new x b ≡ old x b) → truth v ≡ new u j → Along j r → Along (j + 1) (set r (u * edge + j) v)
-  along_next r j v h k f w inv = (
-    length-set r (u * edge + j) v ∙ inv.0,
-    mixed_next (λ x b. ltb b j) (λ x b. ltb b (j + 1)) new old r u j v inv.0 h k inv.1 w (lt-ltb j (j + 1) (omega arith))
-        (λ x b n.
-        by (eqb x u)
-        (λ q. ap (λ c. cond c (new x b) (old x b)) (ltb_step b j (λ e. n (eqb-true x u q, e))))
-        (λ q. same_both (ltb b j) (ltb b (j + 1)) (f x b (eqb-false x u q)))),
-  )
-
-  pub along_done : (r : List ℕ) (j : ℕ) → edge ≤ j → j ≤ edge → ((x b : ℕ) → edge ≤ b → new x b ≡ old x b) → Along j r → grid r ≡ new
-  along_done r j h k f inv =
-      let e : j ≡ edge = omega arith in
-      inv.1 ∙ fun_ext (λ x. fun_ext (λ b. rw e (by (ltb b edge) (λ q. rw q) (λ q. rw q (sym (f x b (ltb-false b edge q)))))))
-
--- a row or a column differs only where it stands
-pub row_else : (u : ℕ) (f : ℕ → Truth) (g : ℕ → ℕ → Truth) (x b : ℕ) → x ≢ u → row u f g x b ≡ g x b
-row_else u f g x b d = rw (ne_eqb x u d)
-
 pub column_else : (t : ℕ) (f : ℕ → Truth → Truth) (g : ℕ → ℕ → Truth) (x b : ℕ) → b ≢ t → column t f g x b ≡ g x b
 column_else t f g x b d = rw (ne_eqb b t d)
 
-pub row_here : (u : ℕ) (f : ℕ → Truth) (g : ℕ → ℕ → Truth) (b : ℕ) → row u f g u b ≡ f b
-row_here u f g b = rw (eq-eqb u u refl)
-
 pub column_here : (t : ℕ) (f : ℕ → Truth → Truth) (g : ℕ → ℕ → Truth) (a : ℕ) → column t f g a t ≡ f a (g a t)
 column_here t f g a = rw (eq-eqb t t refl)
-
--- beyond the edge nothing changes
-pub row_beyond : (u : ℕ) (f : ℕ → Truth) (l : List ℕ) (x b : ℕ) → (edge ≤ b → f b ≡ 𝟘) → edge ≤ b → row u f (grid l) x b ≡ grid l x b
-row_beyond u f l x b z h = by (eqb x u) (λ q. rw q (z h ∙ grid_right l x b h)) (λ q. rw q)
 
 pub column_beyond : (t : ℕ) (f : ℕ → Truth → Truth) (l : List ℕ) (x b : ℕ) → f x 𝟘 ≡ 𝟘 → edge ≤ x → column t f (grid l) x b ≡ grid l x b
 column_beyond t f l x b z h =
@@ -160,10 +120,9 @@ copied_both n v g = fun_ext (λ a. fun_ext (λ b.
     (λ q. rw q (by (eqb a n) (λ y. rw y) (λ y. rw y)))
     (λ q. rw q (by (eqb a n) (λ y. rw y) (λ y. rw y)))))
 
-pub one_in_row : (u v : ℕ) (g : ℕ → ℕ → Truth) → cell u v 𝟙 (row u (λ b. 𝟘) g) ≡ row u (λ b. cond (eqb b v) 𝟙 𝟘) g
-unfolding cell
+pub one_in_row : (u v : ℕ) (g : ℕ → ℕ → Truth) → column v (from_u u 𝟙) (row u (λ b. 𝟘) g) ≡ row u (λ b. cond (eqb b v) 𝟙 𝟘) g
 one_in_row u v g = fun_ext (λ x. fun_ext (λ b.
-    by (eqb x u) (λ q. rw q (by (eqb b v) (λ y. rw y) (λ y. rw y))) (λ q. rw q)))
+    by (eqb x u) (λ q. rw q (by (eqb b v) (λ y. rw y) (λ y. rw y))) (λ q. rw q (by (eqb b v) (λ y. rw y) (λ y. rw y)))))
 
 -- one link is set
 pub cell_into : (u t : ℕ) (v : Truth) (g : ℕ → ℕ → Truth) → cell u t v g ≡ column t (from_u u v) g

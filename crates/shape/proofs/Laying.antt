@@ -1,5 +1,5 @@
 -- Bytes laid over a buffer: none, one, and more after those that stand; and lists of parts of one length.
-use Prim.Native.Nat.{ℕ, zero, suc, ◌+◌, ◌*◌, ◌/◌, ◌%◌, ◌<◌, ◌≤◌}
+use Prim.Native.Nat.{ℕ, zero, suc, min, ◌+◌, ◌*◌, ◌/◌, ◌%◌, ◌<◌, ◌≤◌}
 use mathlib.Core.Bool.{Bool, cond}
 use mathlib.Core.List.{List, [], ◌∷◌, ◌++◌, append_assoc}
 use mathlib.Core.Logic.{◌≢◌}
@@ -9,7 +9,7 @@ use native.Mathlib.Nat.{add-zero, zero-add, mul-zero}
 use native.Mathlib.Numerals.{add-one}
 use lib.Dec.{eqb}
 use borrow.Author.Tests.{eqb-true, eqb-false}
-use lib.ListN.{length, get_or, set, take, drop, length-append, length-set, take-append-drop}
+use lib.ListN.{length, get_or, set, take, drop, length-append, take-append-drop}
 use lib.Seq.{length-take-le, length_front, set_split, take_at, drop-append-add, drop-drop}
 use Rattle.model.specs.Truth.{truth, code}
 use Rattle.model.specs.Finite.{each}
@@ -105,10 +105,6 @@ module _ (f : ℕ → List ℕ) (m : ℕ) (g : (a : ℕ) → length (f a) ≡ m)
       ∙ laid_more out at (each n f) (let z = each_length n in omega arith) b (f n) (e ∙ ap (λ (x : ℕ). at + x) (sym (each_length n)))
       ∙ ap (λ (x : ℕ). laid out at (each x f)) (sym (add-one n))
 
-  pub each_keeps : (out : List ℕ) (at n : ℕ) → at + m * n + m ≤ length out → length (laid out at (each (n + 1) f)) ≡ length out
-  each_keeps out at n h =
-      laid_length out at (each (n + 1) f) (let z = each_length (n + 1) in let y = step_next m n in omega arith)
-
 -- ---- the parts of a record
 
 pub bytes_length : (w v : ℕ) → length (bytes w v) ≡ w
@@ -148,10 +144,10 @@ individual_is w m f a v g d e =
     (ap (λ (x : ℕ). x % 4) e ∙ flags_are (get_or f a 0)
     ∙ ap₂ (λ (b c : Bool). cond b 1 0 + 2 * cond c 1 0) (sym (shared_at f a)) (sym (summary_at f a)))
 
-pub half_code : (b : ℕ) → b ≢ 0 → b ≢ 1 → 2 ≡ code (truth b)
-half_code zero d e = absurd (d refl)
-half_code (suc zero) d e = absurd (e refl)
-half_code (suc (suc b)) d e = refl
+pub code_is : (b : ℕ) → min b 2 ≡ code (truth b)
+code_is zero = refl
+code_is (suc zero) = refl
+code_is (suc (suc b)) = omega arith
 
 pub link_is : (l : List ℕ) (a b v : ℕ) → a < edge → b < edge → v ≡ code (truth (get_or l (a * edge + b) 0)) → v ∷ [] ≡ link_byte l a b
 unfolding link_byte
@@ -199,25 +195,13 @@ module _ (masks flags links : List ℕ) (w p k : ℕ) where
       u)
       ∙ ap length as_record
 
-  pub written_keeps : (out : List ℕ) → 2 + (w + 1) * k + k * k ≤ length out → length (record_of (sized w) p written ++ drop (2 + (w + 1) * k + k * k) out) ≡ length out
-  written_keeps out h =
-      length_front out (record_of (sized w) p written) (2 + (w + 1) * k + k * k)
-      (sym written_length ∙ sym (length-take-le (2 + (w + 1) * k + k * k) out h))
-
-  pub heads_keep : (out out1 : List ℕ) (v : ℕ) → 2 + (w + 1) * k ≤ length out → out1 ≡ laid (set (set out 0 p) 1 v) 2 heads → length out1 ≡ length out
-  heads_keep out out1 v h a =
-      ap length a ∙ laid_length (set (set out 0 p) 1 v) 2 heads (let z = heads_length in let y = same in omega arith) ∙ same
-    where
-      same : length (set (set out 0 p) 1 v) ≡ length out
-      same = length-set (set out 0 p) 1 v ∙ length-set out 0 p
-
-  pub written_is : (out out1 out2 : List ℕ) (v : ℕ) → v ≡ k → 2 + (w + 1) * k + k * k ≤ length out
-      → out1 ≡ laid (set (set out 0 p) 1 v) 2 heads → out2 ≡ laid out1 (2 + (w + 1) * k) tails
+  pub written_is : (out out1 out2 : List ℕ) → 2 + (w + 1) * k + k * k ≤ length out
+      → out1 ≡ laid (set (set out 0 p) 1 k) 2 heads → out2 ≡ laid out1 (2 + (w + 1) * k) tails
       → out2 ≡ record_of (sized w) p written ++ drop (2 + (w + 1) * k + k * k) out
-  written_is out out1 out2 v e h a b =
+  written_is out out1 out2 h a b =
       b
       ∙ ap (λ (l : List ℕ). laid l (2 + (w + 1) * k) tails)
-      (a ∙ ap (λ (x : ℕ). laid (set (set out 0 p) 1 x) 2 heads) e
+      (a
       ∙ ap (λ (l : List ℕ). laid l 2 heads) (laid_two out 0 p k (omega arith))
       ∙ laid_more out 0 (p ∷ k ∷ []) (omega arith) 2 heads refl)
       ∙ laid_more out 0 (p ∷ k ∷ heads) (let z = heads_length in omega arith) (2 + (w + 1) * k) tails (let z = heads_length in omega arith)

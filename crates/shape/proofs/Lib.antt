@@ -9,6 +9,7 @@ pub mod Stages
 pub mod Places
 pub mod Numbered
 pub mod Orders
+pub mod Listed
 pub mod Merging
 pub mod Folded
 pub mod ByKeys
@@ -17,3 +18,5 @@ pub mod Trims
 pub mod Laying
 pub mod Inverse
 pub mod Again
+pub mod Ranges
+pub mod Filled

@@ -1,16 +1,21 @@
--- Looking up and moving variables: loops over the masks, and places below the edge.
+-- Looking up and moving variables: a search of the masks, a loop over them, and places below the edge.
 use Prim.Native.Nat.{ℕ, zero, suc, ◌+◌, ◌<◌, ◌≤◌}
 use mathlib.Core.Bool.{Bool, false, cond}
 use mathlib.Core.List.{List, [], ◌∷◌}
-use mathlib.Core.Path.{◌≡◌, refl, sym, ap, subst, ◌∙◌, fun_ext}
+use mathlib.Core.Path.{◌≡◌, refl, sym, ap, ◌∙◌, fun_ext}
 use native.Mathlib.Omega.{arith}
 use lib.Dec.{eqb, ltb}
-use lib.ListN.{get_or, set, length, length-set}
+use lib.ListN.{get_or, set, length, length-set, take}
+use Rattle.std.specs.Prelude.{Option, None, Some, position}
+use Rattle.std.specs.List.{position_or_len}
+use Rattle.std.proofs.lemmas.List.{length-take-le, get_or-take}
+use Rattle.std.proofs.lemmas.List.Sums.{fails_before_first}
+use Rattle.std.proofs.lemmas.List.Quantifiers.{position-Some}
 use borrow.Author.Tests.{eqb-true, eqb-false, ne_eqb, ltb-false, lt-ltb, le-ltb}
-use Rattle.model.specs.Finite.{Ref, null, at, is, put, first}
+use Rattle.model.specs.Finite.{is, put, first}
 use Rattle.model.specs.Step.{edge}
-use Rattle.model.proofs.Bools.{by}
-use Rattle.model.proofs.Search.{Firstly, firstly, first_at, nowhere}
+use Rattle.model.proofs.Bools.{by, clash}
+use Rattle.model.proofs.Search.{none_any, first_hit, first_none}
 use Rattle.shape.specs.Meaning.{mask, index, ref}
 use Rattle.shape.specs.declared.Place.{Place}
 use Rattle.shape.specs.declared.Place.TheVariants.{At, Null}
@@ -59,14 +64,28 @@ mask_beyond l a e h = past l a (let z = e in omega arith)
 pub moved_beyond : (p : Place) (l : List ℕ) (x a : ℕ) → length l ≡ edge → index p < edge → edge ≤ a → put x (is (ref p) a) (mask l a) ≡ mask l a
 moved_beyond p l x a e h k = rw (is_beyond p a h k, mask_beyond l a e k) (put_none x)
 
--- who holds x stands below the edge
-pub found_low : (n : ℕ) (p : ℕ → Bool) (u : ℕ) → at u ≡ first n p → u < n
-found_low n p u e = go (first n p) (firstly n p) u e
-  where
-    go : (r : Ref) → Firstly n p r → (u : ℕ) → at u ≡ r → u < n
-    go (at a) (first_at h q) u e = subst (λ (x : ℕ). x < n) (let z : a ≡ u = cc in z) h
-    go null (nowhere f) u e = absurd (let z : ◌≡◌ {A = ℕ} 0 1 = cc in omega arith)
+-- the place that a search found
+abbrev pub placed : Option ℕ → Place
+placed None = Null
+placed (Some a) = At a
 
-pub index_low : (n : ℕ) (p : ℕ → Bool) (r : Place) → n ≤ edge → ref r ≡ first n p → index r < edge
-index_low n p (At u) h e = let z = found_low n p u e in omega arith
-index_low n p Null h e = omega arith
+pub first_at_position : (p : ℕ → Bool) (l : List ℕ) (n : ℕ) (r : Place) → n ≤ length l → r ≡ placed (position p (take n l)) → ref r ≡ first n (λ a. p (mask l a))
+unfolding mask
+first_at_position p l n r h e =
+    let xs = take n l in
+    let i = position_or_len p xs in
+    let w : length xs ≡ n = length-take-le n l h in
+    let before : (k : ℕ) → k < n → k < i → p (get_or l k 0) ≡ false =
+    λ k m o. ap p (sym (get_or-take n l k 0 m)) ∙ fails_before_first p xs k 0 o in
+    by (ltb i (length xs))
+    (λ q.
+    let f : position p xs ≡ Some i = rw q in
+    let y = position-Some p xs i 0 f in
+    let m : i < n = omega (arith, y.0) in
+    ap ref (e ∙ ap placed f)
+    ∙ sym (first_hit (λ a. p (get_or l a 0)) n i m (none_any i (λ a. p (get_or l a 0)) (λ k o t. clash t (before k (omega arith) o))) (ap p (sym (get_or-take n l i 0 m)) ∙ y.1)))
+    (λ q.
+    let f : position p xs ≡ None = rw q in
+    let m = ltb-false i (length xs) q in
+    ap ref (e ∙ ap placed f)
+    ∙ sym (first_none (λ a. p (get_or l a 0)) n (none_any n (λ a. p (get_or l a 0)) (λ k o t. clash t (before k o (omega arith))))))

@@ -2,22 +2,20 @@
 use Prim.Native.Nat.{ℕ, ◌+◌, ◌*◌, ◌/◌, ◌%◌, ◌<◌, ◌≤◌}
 use mathlib.Core.Bool.{Bool, true, false, cond, not, ◌&&◌, ◌||◌, beq}
 use mathlib.Core.List.{List}
-use mathlib.Core.Logic.{◌≢◌}
 use mathlib.Core.Path.{◌≡◌, refl, sym, ap, ap₂, ◌∙◌, fun_ext}
 use native.Mathlib.Omega.{arith}
-use native.Mathlib.Nat.{mul-le-mul_left, mul-add, mul-one, mul-zero, add-zero}
+use native.Mathlib.Nat.{mul-le-mul_left, mul-add, mul-one}
 use lib.Dec.{eqb, ltb}
-use borrow.Author.Tests.{eqb-true, eqb-false, eq-eqb, lt-ltb}
+use borrow.Author.Tests.{eq-eqb, lt-ltb}
 use Rattle.model.specs.Truth.{𝟘, under, truth}
 use Rattle.model.specs.Finite.{every}
 use Rattle.model.specs.Shape.{Shape, covered_at, covered}
 use Rattle.model.specs.File.{byte, number, size_at}
 use Rattle.model.specs.Claim.{shape_of}
-use Rattle.model.proofs.Bools.{by, same_bool, false_of, and_left, and_right, and_both, beq_true, eq_beq}
-use Rattle.model.proofs.Search.{every_elim, every_intro}
+use Rattle.model.proofs.Bools.{same_bool, and_left, and_right, and_both}
+use Rattle.model.proofs.Search.{every_cong, every_elim, every_intro}
 use Rattle.shape.specs.Meaning.{made, mask, shared, summary, grid}
 use Rattle.shape.specs.Records.{sized, keys_agree}
-use Rattle.shape.proofs.Tests.{every_cong}
 use Rattle.shape.proofs.Entries.{mask_at, shared_at, summary_at}
 
 -- ---- steps of one length
@@ -50,21 +48,6 @@ module _ (f : List ℕ) (k : ℕ) (g : ℕ → ℕ) (e : mask f ≡ (λ a. cond 
       ∙ bit_if (λ x. eqb (x / 2 % 2) 1) refl (ltb a k) (g a))
 
 -- ---- covering
-
-pub bits_apart : (f g : ℕ) → f % 2 ≢ g % 2 → beq (eqb (f % 2) 1) (eqb (g % 2) 1) ≡ false
-bits_apart f g d =
-    false_of
-    (λ q.
-    let e = beq_true (eqb (f % 2) 1) (eqb (g % 2) 1) q in
-    by (eqb (f % 2) 1)
-    (λ y. let z = eqb-true (f % 2) 1 y in let w = eqb-true (g % 2) 1 (sym e ∙ y) in d (omega arith))
-    (λ y.
-    let z : f % 2 ≢ 1 = eqb-false (f % 2) 1 y in
-    let w : g % 2 ≢ 1 = eqb-false (g % 2) 1 (sym e ∙ y) in
-    d (omega arith)))
-
-pub bits_same : (f g : ℕ) → f % 2 ≡ g % 2 → beq (eqb (f % 2) 1) (eqb (g % 2) 1) ≡ true
-bits_same f g e = eq_beq (eqb (f % 2) 1) (eqb (g % 2) 1) (ap (λ (x : ℕ). eqb x 1) e)
 
 -- first all keys, then all links
 every_both : (n : ℕ) (p q : ℕ → Bool) → (every n p && every n q) ≡ every n (λ a. p a && q a)
@@ -131,23 +114,3 @@ module _ (n : ℕ) (ms fs ls part : List ℕ) (w : ℕ) where
       every_both n key_covered row_covered
       ∙ every_cong n (λ a. key_covered a && row_covered a) (covered_at the_covered (shape_of (sized w) part)) (covered_one e)
       ∙ ap (λ (b : Bool). b && every n (covered_at the_covered (shape_of (sized w) part))) (sym (eq-eqb n (size_at part 0) e))
-
--- ---- tests of the code
-
-pub and_ends : (b : Bool) → b ≡ (b && true)
-and_ends true = refl
-and_ends false = refl
-
-pub not_not : {b : Bool} → not b ≡ false → b ≡ true
-not_not {b = true} e = refl
-not_not {b = false} e = sym e
-
-pub same_test : {m m' f f' q q' g g' : ℕ} → m ≡ m' → f ≡ f' → q ≡ q' → g ≡ g' → keys_agree m f q g ≡ keys_agree m' f' q' g'
-same_test a b c d = rw (a, b, c, d)
-
--- where the first one stands
-pub start_place : (w : ℕ) → 2 + (w + 1) * 0 ≡ 2
-start_place w = ap (λ (x : ℕ). 2 + x) (mul-zero (w + 1))
-
-pub place_start : (p k : ℕ) → p + k * 0 ≡ p
-place_start p k = ap (λ (x : ℕ). p + x) (mul-zero k) ∙ add-zero p

@@ -7,7 +7,7 @@ use borrow.Author.Tests.{lt-ltb}
 use Rattle.model.specs.Truth.{𝟘, under}
 use Rattle.model.specs.Shape.{Shape, covered_at, covered}
 use Rattle.shape.specs.Meaning.{trimmed}
-use Rattle.shape.proofs.Tests.{every_cong}
+use Rattle.model.proofs.Search.{every_cong}
 
 module _ (R T : Shape) where
   trimmed_at : (a : ℕ) → a < R.size → covered_at (trimmed R) T a ≡ covered_at R T a

@@ -2,5 +2,6 @@
 pub mod Meaning
 pub mod Slots
 pub mod Keys
+pub mod Listed
 pub mod Records
 pub mod Writing

@@ -1,7 +1,7 @@
 -- What the engine's values mean: arrays read as total functions that are zero beyond their edge.
-use Rattle.std.specs.Prelude.{ℕ, ◌+◌, ◌*◌, ◌/◌, ◌%◌, ◌<◌, ◌≤◌, Bool, false, cond, ◌&&◌, List, ◌≡◌, eqb, ltb, get_or, length}
+use Rattle.std.specs.Prelude.{ℕ, ◌+◌, ◌*◌, ◌/◌, ◌%◌, ◌<◌, ◌≤◌, Bool, false, cond, ◌&&◌, List, [], ◌∷◌, Option, None, Some, IfSome, ◌≡◌, eqb, ltb, get_or, length}
 use Rattle.model.specs.Truth.{Truth, truth, 𝟘}
-use Rattle.model.specs.Finite.{Ref, null, at, given}
+use Rattle.model.specs.Finite.{Ref, null, at}
 use Rattle.model.specs.Shape as M
 use Rattle.model.specs.Step as S
 use Rattle.model.specs.Step.{edge}
@@ -10,7 +10,6 @@ use Rattle.shape.specs.declared.Place.{Place}
 use Rattle.shape.specs.declared.Place.TheVariants.{At, Null}
 use Rattle.shape.specs.declared.truth.Truth as byte
 use Rattle.shape.specs.declared.opening.Opened.{Opened}
-use Rattle.shape.specs.declared.clearing.Raw.{Raw}
 
 -- the value of a byte
 abbrev pub truth_of : byte.Truth → Truth
@@ -77,22 +76,24 @@ pub record Masks (l : List ℕ) (m : ℕ → ℕ) : Type 0 where
 
 -- ---- results
 
--- the list of the one result that is given, or the empty list
-abbrev pub one : Raw → List M.Shape
-one o = given o.given (meaning o.shape)
+-- the list of the one result, or the empty list
+abbrev pub one : Option Shape → List M.Shape
+one None = []
+one (Some s) = meaning s ∷ []
 
-abbrev pub opening : Opened → List S.Opened
-opening o = given o.given (record { shape = meaning o.shape; target = ref o.target })
+abbrev pub opening : Option Opened → List S.Opened
+opening None = []
+opening (Some o) = record { shape = meaning o.shape; target = ref o.target } ∷ []
 
 -- o is what the list l has, and stays within the edge
-pub record Opens (l : List S.Opened) (o : Opened) : Type 0 where
+pub record Opens (l : List S.Opened) (o : Option Opened) : Type 0 where
   pub is : opening o ≡ l
-  pub size : o.shape.n ≤ edge
-  pub low : index o.target < edge
+  pub size : IfSome o (λ r. r.shape.n ≤ edge)
+  pub low : IfSome o (λ r. index r.target < edge)
 
-pub record Gives (l : List M.Shape) (o : Raw) : Type 0 where
+pub record Gives (l : List M.Shape) (o : Option Shape) : Type 0 where
   pub is : one o ≡ l
-  pub size : o.shape.n ≤ edge
+  pub size : IfSome o (λ s. s.n ≤ edge)
 
 -- ---- what a shape says of its individuals
 

@@ -1,6 +1,6 @@
 -- The results of opening, clearing and linking one by one: at a place number one result, if it is given, or none.
 -- proofs/Places shows that in the order of the places they are the lists of the definitions.
-use Rattle.std.specs.Prelude.{ℕ, suc, ◌+◌, ◌-◌, ◌*◌, ◌/◌, ◌%◌, ◌≤◌, Bool, true, false, cond, not, ◌&&◌, List, [], ◌∷◌, map, ◌≡◌, eqb, ltb}
+use Rattle.std.specs.Prelude.{ℕ, suc, ◌+◌, ◌-◌, ◌*◌, ◌/◌, ◌%◌, ◌≤◌, Bool, true, false, cond, not, ◌&&◌, List, [], ◌∷◌, map, Option, None, Some, IfSome, ◌≡◌, eqb, ltb}
 use Rattle.model.specs.Truth.{𝟘, 𝟙, may, must}
 use Rattle.model.specs.Finite.{Ref, null, at, null_ref, equal, any, given, in_each}
 use Rattle.model.specs.Store.{Op, stop, go, set_null, set_var, set_new, load, cut, store, is_null, is_same, at_point}
@@ -75,16 +75,6 @@ through_slot op x y W j =
     (at_holder (holder W x) (λ u. clear_slot W u j))
     (at_holder (holder W x) (λ u. store_slot W u (holder W y) j)))
 
--- null, or an individual for which the test holds
-abbrev pub shut : Ref → (ℕ → Bool) → Bool
-shut null f = true
-shut (at u) f = f u
-
--- ops 5 to 7 have no result at place j where this holds
-abbrev pub closed : ℕ → ℕ → ℕ → Shape → ℕ → Bool
-closed op x y W j =
-    shut (holder W (cond (eqb op 5) y x)) (λ u. not (opens W u (cond (eqb op 5) j (cond (eqb op 6) (j / 2) (j / 2 / 2)))))
-
 -- ---- a statement: how many places it has, and the result at each
 
 abbrev pub places : Op → ℕ → ℕ
@@ -122,11 +112,12 @@ result_slot (is_same x y s₁ s₂) W j = (cond (equal (holder W x) (holder W y)
 abbrev pub outcome_slot : Op → Shape → ℕ → List (ℕ × Shape)
 outcome_slot o W j = map trimmed_result (map folded_result (result_slot o W j))
 
--- the list of the one outcome that is given, or the empty list
-abbrev pub out : Outcome → List (ℕ × Shape)
-out o = given o.given (o.successor, trimmed (meaning o.shape))
+-- the list of the one outcome, or the empty list
+abbrev pub out : Option Outcome → List (ℕ × Shape)
+out None = []
+out (Some o) = (o.successor, trimmed (meaning o.shape)) ∷ []
 
 -- o is what the list l has, and stays within the edge
-pub record Yields (l : List (ℕ × Shape)) (o : Outcome) : Type 0 where
+pub record Yields (l : List (ℕ × Shape)) (o : Option Outcome) : Type 0 where
   pub is : out o ≡ l
-  pub size : o.shape.n ≤ edge
+  pub size : IfSome o (λ r. r.shape.n ≤ edge)

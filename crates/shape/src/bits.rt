@@ -1,5 +1,5 @@
 // Single masks and flags: a variable in a mask, the bits of the flags, the key of the two.
-ghost use Rattle.std.specs.Prelude.{◌≡◌, ◌+◌, ◌*◌, ◌/◌, ◌%◌, ◌^◌, ◌<◌, eqb};
+ghost use Rattle.std.specs.Prelude.{◌≡◌, ◌+◌, ◌*◌, ◌%◌, ◌^◌, ◌<◌};
 ghost use Rattle.model.specs.Finite.{bit, put};
 
 // x is in the mask.
@@ -23,29 +23,12 @@ pub fn with_bit(m: u16, x: u8, b: bool) -> u16
     requires { x < 16 }
     ensures { result ≡ put x b m }
 {
-    if holds(m, x) {
-        if b {
-            return m;
-        }
-        return m - alone(x);
-    }
-    if b {
-        return m + alone(x);
-    }
-    m
+    if b { m | alone(x) } else { m & !alone(x) }
 }
 
 // The key: the shared bit weighs more than any mask.
 pub fn key(m: u16, f: u8) -> u32
     ensures { result ≡ 65536 * (f % 2) + m }
 {
-    65536 * ((f % 2) as u32) + (m as u32)
-}
-
-// The flags with the shared bit.
-pub fn raised(f: u8) -> u8
-    requires { f % 2 ≡ 1 → ⊥ }
-    ensures { result ≡ f + 1 }
-{
-    f + 1
+    65536 * u32::from(f % 2) + u32::from(m)
 }

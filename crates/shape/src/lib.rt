@@ -1,11 +1,12 @@
 // The engine: a shape by value, what a statement makes of it, and its record in the file. Each function equals its
-// definition in `model`. A shape is passed by value between the stages of a step; whatever runs in a loop takes single
-// numbers, or lends the one array that it looks at, since a struct by value is copied at each call.
+// definition in `model`. What only looks at a shape borrows it; whether a place can be opened is found out before anything
+// is copied, and the stages of a result pass their one copy on by value.
 #![tactic(auto)]
 
 mod bits;
 pub mod clearing;
 pub mod covering;
+mod firsts;
 pub mod folding;
 pub mod linking;
 mod links;
@@ -18,7 +19,7 @@ pub mod writing;
 
 ghost use Rattle.std.specs.Prelude.{◌≡◌, ◌<◌};
 ghost use Rattle.model.specs.Shape as M;
-ghost use Rattle.model.specs.Step.{edge, with_n, into, from_u};
+ghost use Rattle.model.specs.Step.{edge, with_n, into, sharing, from_u};
 ghost use Rattle.shape.specs.Meaning.{meaning, none, truth_of};
 
 use truth::Truth;
@@ -29,8 +30,9 @@ pub const EDGE: usize = 11;
 pub const CELLS: usize = EDGE * EDGE;
 
 // Individual a has the variables masks[a]; flags[a] is 1 if it is shared, plus 2 if it is a summary; its link to b has
-// the value links[a * EDGE + b].
-#[derive(Clone, Copy)]
+// the value links[a * EDGE + b]. A count beside arrays is the form of document 01. That n is at most EDGE is asked where it
+// is needed, and not by the type: `link`, `key` and `moved` take a shape of any n, and may not ask more.
+#[derive(Clone, Copy, Debug, PartialEq, Eq)]
 pub struct Shape {
     pub n: usize,
     pub masks: [u16; EDGE],
@@ -38,17 +40,16 @@ pub struct Shape {
     pub links: [u8; CELLS],
 }
 
-// Where a variable is held.
-#[derive(Clone, Copy)]
+// Where a variable is held. An enum of its own, and no Option: the form of document 01.
+#[derive(Clone, Copy, Debug, PartialEq, Eq)]
 pub enum Place {
     At(usize),
     Null,
 }
 
-// An outcome of a step: given or not, where it goes on, and the folded shape.
-#[derive(Clone, Copy)]
+// An outcome of a step: where it goes on, and the folded shape.
+#[derive(Clone, Copy, Debug, PartialEq, Eq)]
 pub struct Outcome {
-    pub given: bool,
     pub successor: usize,
     pub shape: Shape,
 }
@@ -67,26 +68,50 @@ impl Shape {
     }
 
     // The link from a to b.
-    pub fn link(self, a: usize, b: usize) -> Truth
+    pub fn link(&self, a: usize, b: usize) -> Truth
         requires { (a < edge) × (b < edge) }
-        ensures { truth_of result ≡ (meaning self).n.link a b }
+        ensures { truth_of result ≡ (meaning self.now).n.link a b }
     {
         Truth(self.links[a * EDGE + b])
     }
 
     // The link from a to b becomes v.
-    pub fn with_link(mut self, a: usize, b: usize, v: Truth) -> Shape
+    pub fn set_link(&mut self, a: usize, b: usize, v: Truth)
         requires { (a < edge) × (b < edge) }
-        ensures { meaning result ≡ with_n (meaning self) (into b (from_u a (truth_of v)) (meaning self).n) }
+        ensures { meaning self.new ≡ with_n (meaning self.old) (into b (from_u a (truth_of v)) (meaning self.old).n) }
     {
         self.links[a * EDGE + b] = v.0;
-        self
+    }
+
+    // Individual a is shared.
+    pub fn shared(&self, a: usize) -> bool
+        requires { a < edge }
+        ensures { result ≡ (meaning self.now).n.shared a }
+    {
+        self.flags[a] % 2 == 1
+    }
+
+    // Individual a becomes shared, or unshared.
+    pub fn set_shared(&mut self, a: usize, shared: bool)
+        requires { a < edge }
+        ensures { meaning self.new ≡ with_n (meaning self.old) (sharing a shared (meaning self.old).n) }
+    {
+        let f = self.flags[a];
+        self.flags[a] = f - f % 2 + u8::from(shared);
+    }
+
+    // Individual a is a summary.
+    pub fn summary(&self, a: usize) -> bool
+        requires { a < edge }
+        ensures { result ≡ (meaning self.now).summary a }
+    {
+        self.flags[a] / 2 % 2 == 1
     }
 
     // The individual's key: its shared bit weighs more than any mask.
-    pub fn key(self, a: usize) -> u32
+    pub fn key(&self, a: usize) -> u32
         requires { a < edge }
-        ensures { result ≡ M.key 65536 (meaning self) a }
+        ensures { result ≡ M.key 65536 (meaning self.now) a }
     {
         bits::key(self.masks[a], self.flags[a])
     }

@@ -1,6 +1,6 @@
 // Variables: who holds one, moving one, and a new individual for one.
 ghost use Rattle.std.specs.Prelude.{◌≡◌, ◌<◌, ◌≤◌, length};
-ghost use Rattle.model.specs.Finite.{is, put, first, bit};
+ghost use Rattle.model.specs.Finite.{is, put};
 ghost use Rattle.model.specs.Shape as M;
 ghost use Rattle.model.specs.Step as S;
 ghost use Rattle.model.specs.Step.{edge};
@@ -8,70 +8,46 @@ ghost use Rattle.shape.specs.Meaning.{meaning, mask, ref, index, Masks};
 
 use super::{EDGE, Place, Shape, bits, links};
 
-// The first of n masks that has x.
-pub fn first_with(masks: &[u16; EDGE], n: usize, x: u8) -> Place
-    requires { (x < 16) × (n ≤ edge) }
-    ensures { ref result ≡ first n (λ a. bit x (mask masks.now a)) }
-{
-    for a in 0..n {
-        if bits::holds(masks[a], x) {
-            return Place::At(a);
-        }
-    }
-    Place::Null
-}
-
 // The individual that holds x.
-pub fn holder(s: Shape, x: u8) -> Place
-    requires { (x < 16) × (s.n ≤ edge) }
-    ensures { ref result ≡ M.holder (meaning s) x }
+pub fn holder(s: &Shape, x: u8) -> Place
+    requires { (x < 16) × (s.now.n ≤ edge) }
+    ensures is { ref result ≡ M.holder (meaning s.now) x }
+    ensures low { index result < edge }
 {
-    let n = s.n;
-    first_with(&s.masks, n, x)
-}
-
-fn at_place(p: Place, a: usize) -> bool
-    ensures { result ≡ is (ref p) a }
-{
-    match p {
-        Place::At(b) => a == b,
-        Place::Null => false,
-    }
+    let held = s.masks[..s.n].iter().position(|m| bits::holds(*m, x));
+    held.map_or(Place::Null, Place::At)
 }
 
 // x is in the mask at p alone.
 fn move_bit(masks: &mut [u16; EDGE], x: u8, p: Place)
-    requires { (length masks.old ≡ edge) × (x < 16) × (index p < edge) }
+    requires { (x < 16) × (index p < edge) }
     ensures { Masks masks.new (λ a. put x (is (ref p) a) (mask masks.old a)) }
 {
-    for a in 0..EDGE {
-        let v = bits::with_bit(masks[a], x, at_place(p, a));
-        masks[a] = v;
+    for (a, m) in masks.iter_mut().enumerate() {
+        *m = bits::with_bit(*m, x, p == Place::At(a));
     }
 }
 
 // x moves to p.
-pub fn moved(s: Shape, x: u8, p: Place) -> Shape
+pub fn moved(mut s: Shape, x: u8, p: Place) -> Shape
     requires { (x < 16) × (index p < edge) }
     ensures { meaning result ≡ S.moved (meaning s) x (ref p) }
 {
-    let mut r = s;
-    move_bit(&mut r.masks, x, p);
-    r
+    move_bit(&mut s.masks, x, p);
+    s
 }
 
 // A new individual that holds x alone.
-pub fn fresh(s: Shape, x: u8) -> Shape
+pub fn fresh(mut s: Shape, x: u8) -> Shape
     requires { (x < 16) × (s.n < edge) }
     ensures { meaning result ≡ S.fresh (meaning s) x }
 {
     let n = s.n;
-    let mut r = s;
-    move_bit(&mut r.masks, x, Place::Null);
-    links::zero_column(&mut r.links, n);
-    links::zero_row(&mut r.links, n);
-    r.masks[n] = bits::alone(x);
-    r.flags[n] = 0;
-    r.n = n + 1;
-    r
+    move_bit(&mut s.masks, x, Place::Null);
+    links::zero_column(&mut s.links, n);
+    links::zero_row(&mut s.links, n);
+    s.masks[n] = bits::alone(x);
+    s.flags[n] = 0;
+    s.n = n + 1;
+    s
 }

@@ -1,6 +1,5 @@
 // A shape's record, written as bytes into the front of a lent buffer.
 ghost use Rattle.std.specs.Prelude.{◌≡◌, ◌∷◌, [], ◌++◌, ◌+◌, ◌*◌, ◌%◌, ◌<◌, ◌≤◌, length, drop};
-ghost use Rattle.model.specs.Truth.{truth, code};
 ghost use Rattle.model.specs.Finite.{each};
 ghost use Rattle.model.specs.Step.{edge};
 ghost use Rattle.model.specs.Claim.{bytes, record_of};
@@ -8,35 +7,8 @@ ghost use Rattle.shape.specs.Meaning.{meaning};
 ghost use Rattle.shape.specs.Records.{sized};
 ghost use Rattle.shape.specs.Writing.{laid, individual_bytes, link_byte};
 
+use super::records::individual_at;
 use super::{CELLS, EDGE, Shape};
-
-// ---- bytes
-
-fn low(m: u16) -> u8
-    ensures { result ≡ m % 256 }
-{
-    (m % 256) as u8
-}
-
-fn short(n: usize) -> u8
-    requires { n < 256 }
-    ensures { result ≡ n }
-{
-    n as u8
-}
-
-// The byte of a link: whatever is above 1 stands for 1/2 and is written 2.
-fn link_byte(b: u8) -> u8
-    ensures { result ≡ code (truth b) }
-{
-    if b == 0 {
-        return 0;
-    }
-    if b == 1 {
-        return 1;
-    }
-    2
-}
 
 // ---- parts of the record, each from a place on
 
@@ -45,68 +17,59 @@ fn individual(m: u16, f: u8, width: usize, at: usize, out: &mut [u8])
     requires { (1 ≤ width) × (width ≤ 2) × (at + (width + 1) ≤ length out.old) }
     ensures { out.new ≡ laid out.old at (bytes width m ++ ((f % 4) ∷ [])) }
 {
-    out[at] = low(m);
-    if width == 1 {
-        out[at + 1] = f % 4;
-        return;
+    let [low, high] = m.to_le_bytes();
+    out[at] = low;
+    if width == 2 {
+        out[at + 1] = high;
     }
-    out[at + 1] = low(m / 256);
-    out[at + 2] = f % 4;
+    out[at + width] = f % 4;
 }
 
-// The k individuals, from byte 2 on.
-fn individuals<'a>(
-    masks: &'a [u16; EDGE],
-    flags: &'a [u8; EDGE],
-    k: usize,
-    width: usize,
-    out: &mut [u8],
-)
-    requires { (1 ≤ width) × (width ≤ 2) × (k ≤ edge) × (2 + (width + 1) * k ≤ length out.old) }
-    ensures { out.new ≡ laid out.old 2 (each k (individual_bytes width masks.now flags.now)) }
+// The individuals, from byte 2 on.
+fn individuals(s: &Shape, width: usize, out: &mut [u8])
+    requires { (1 ≤ width) × (width ≤ 2) × (s.now.n ≤ edge) × (2 + (width + 1) * s.now.n ≤ length out.old) }
+    ensures { out.new ≡ laid out.old 2 (each s.now.n (individual_bytes width s.now.masks s.now.flags)) }
 {
-    let mut at: usize = 2;
-    for a in 0..k {
-        individual(masks[a], flags[a], width, at, out);
-        at += width + 1;
+    // By index, which says where an individual stands: a chain needs `zip` and `enumerate` and counts a all the same.
+    for a in 0..s.n {
+        individual(s.masks[a], s.flags[a], width, individual_at(width, a), out);
     }
 }
 
-// The links from a to the k individuals.
+// The links from a to the k individuals; whatever is above 1 stands for 1/2 and is written 2.
 fn row(links: &[u8; CELLS], a: usize, k: usize, at: usize, out: &mut [u8])
     requires { (a < edge) × (k ≤ edge) × (at + k ≤ length out.old) }
     ensures { out.new ≡ laid out.old at (each k (link_byte links.now a)) }
 {
-    for b in 0..k {
-        out[at + b] = link_byte(links[a * EDGE + b]);
+    // By index: after a loop over `iter_mut().zip(..)` a proof knows the length of what was written, and no element.
+    for (b, v) in links[a * EDGE..a * EDGE + k].iter().enumerate() {
+        out[at + b] = (*v).min(2);
     }
 }
 
-// The k rows of links.
+// The k rows of links, by number, which says where a row stands in the flat matrix and in the buffer.
 fn rows(links: &[u8; CELLS], k: usize, place: usize, out: &mut [u8])
     requires { (k ≤ edge) × (place + k * k ≤ length out.old) }
     ensures { out.new ≡ laid out.old place (each k (λ a. each k (link_byte links.now a))) }
 {
-    let mut at = place;
     for a in 0..k {
-        row(links, a, k, at, out);
-        at += k;
+        row(links, a, k, place + k * a, out);
     }
 }
 
 // ---- the record
 
 // Writes the record of the shape at a point, and gives its length. The bytes after it stay as they were.
-pub fn write(s: Shape, point: u8, width: usize, out: &mut [u8]) -> usize
-    requires { (s.n ≤ edge) × (1 ≤ width) × (width ≤ 2) × (2 + (width + 1) * s.n + s.n * s.n ≤ length out.old) }
-    ensures record { out.new ≡ record_of (sized width) point (meaning s) ++ drop result out.old }
-    ensures length { result ≡ length (record_of (sized width) point (meaning s)) }
+pub fn write(s: &Shape, point: u8, width: usize, out: &mut [u8]) -> usize
+    requires { (s.now.n ≤ edge) × (1 ≤ width) × (width ≤ 2) × (2 + (width + 1) * s.now.n + s.now.n * s.now.n ≤ length out.old) }
+    ensures record { out.new ≡ record_of (sized width) point (meaning s.now) ++ drop result out.old }
+    ensures length { result ≡ length (record_of (sized width) point (meaning s.now)) }
 {
-    let k = s.n;
     out[0] = point;
-    out[1] = short(k);
-    individuals(&s.masks, &s.flags, k, width, out);
-    let place = 2 + (width + 1) * k;
-    rows(&s.links, k, place, out);
-    place + k * k
+    // No plainer: `u8::try_from` needs an `unwrap`, and the cast is proved to lose nothing.
+    out[1] = s.n as u8;
+    individuals(s, width, out);
+    let place = individual_at(width, s.n);
+    rows(&s.links, s.n, place, out);
+    place + s.n * s.n
 }

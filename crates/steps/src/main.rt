@@ -2,10 +2,11 @@
 // (k, mask and flags of each, the link values row by row); after it the output has each outcome, successor and record.
 #![tactic(auto)]
 
-ghost use Rattle.std.specs.Prelude.{◌≡◌, ◌<◌, ◌≤◌, IfOk, length};
+ghost use Rattle.std.specs.Prelude.{◌<◌, ◌≤◌};
 ghost use Rattle.model.specs.Step.{edge};
 
 use input::ROOM;
+use shape::stepping::Statement;
 use shape::{EDGE, Outcome, Shape, records, stepping};
 use std::io;
 use std::io::Write;
@@ -15,91 +16,58 @@ const LONGEST: usize = 122;
 
 // ---- reading
 
-// A number of the input, and the place after it.
+// The numbers of a text; whatever is no digit sets them apart.
 #[derive(Clone, Copy)]
-struct Read {
-    value: u8,
-    next: usize,
+struct Numbers<'a> {
+    rest: &'a [u8],
 }
 
-// One more digit, modulo 256.
-fn with_digit(v: u8, b: u8) -> u8 {
-    ((widened(v) * 10 + widened(b) + 208) % 256) as u8
-}
+impl Numbers<'_> {
+    // Whether there is one more. What stands before it is passed over.
+    fn more(&mut self) -> bool {
+        let length = self.rest.len();
+        let gap = self
+            .rest
+            .iter()
+            .position(|b| b.is_ascii_digit())
+            .unwrap_or(length);
+        self.rest = &self.rest[gap..];
+        gap < length
+    }
 
-fn widened(b: u8) -> usize
-    ensures { result < 256 }
-{
-    b as usize
-}
+    // The next one, modulo 256; 0 at the end.
+    fn number(&mut self) -> u8 {
+        self.more();
+        let length = self.rest.len();
+        let digits = self
+            .rest
+            .iter()
+            .position(|b| !b.is_ascii_digit())
+            .unwrap_or(length);
+        let (number, rest) = self.rest.split_at(digits);
+        self.rest = rest;
+        number.iter().fold(0u8, |v, b| {
+            v.wrapping_mul(10).wrapping_add(b.wrapping_sub(b'0'))
+        })
+    }
 
-// Where the next digit stands, or the end.
-fn skipped(text: &[u8], place: usize) -> usize
-    requires { place ≤ length text.now }
-    ensures { result ≤ length text.now }
-{
-    for at in place..text.len() {
-        if text[at].is_ascii_digit() {
-            return at;
+    // A record's k individuals and link values; its point is 0. Of one that is too large there is only k.
+    fn record(&mut self) -> [u8; LONGEST] {
+        let mut bytes = [0u8; LONGEST];
+        let k = self.number();
+        bytes[1] = k;
+        if k < 11 {
+            let k = usize::from(k);
+            for byte in &mut bytes[2..2 + 2 * k + k * k] {
+                *byte = self.number();
+            }
         }
+        bytes
     }
-    text.len()
-}
-
-fn number(text: &[u8], place: usize) -> Read
-    requires { place ≤ length text.now }
-    ensures { result.next ≤ length text.now }
-{
-    let mut value: u8 = 0;
-    for at in skipped(text, place)..text.len() {
-        if !text[at].is_ascii_digit() {
-            return Read { value, next: at };
-        }
-        value = with_digit(value, text[at]);
-    }
-    Read {
-        value,
-        next: text.len(),
-    }
-}
-
-fn ten_at_most(k: u8) -> usize
-    ensures { result ≤ 10 }
-{
-    if k < 11 {
-        return k as usize;
-    }
-    0
-}
-
-// A record's k individuals and link values, from a place on; its point is 0.
-fn record_at(text: &[u8], place: usize) -> Row
-    requires { place ≤ length text.now }
-    ensures { result.next ≤ length text.now }
-{
-    let mut bytes = [0u8; LONGEST];
-    let first = number(text, place);
-    let k = ten_at_most(first.value);
-    bytes[1] = first.value;
-    let many = 2 * k + k * k;
-    let mut at = first.next;
-    for i in 0..many {
-        let v = number(text, at);
-        bytes[i + 2] = v.value;
-        at = v.next;
-    }
-    Row { bytes, next: at }
-}
-
-#[derive(Clone, Copy)]
-struct Row {
-    bytes: [u8; LONGEST],
-    next: usize,
 }
 
 // The shape of a record, or none if it is too large.
 fn shape_of(bytes: &[u8; LONGEST]) -> Shape
-    requires { length bytes.now ≡ 122 }
     ensures { result.n < edge }
 {
     if bytes[1] < 11 {
@@ -114,96 +82,73 @@ fn word<W: Write>(out: &mut W, v: usize) -> io::Result<()> {
     write!(out, " {v}")
 }
 
-fn words<W: Write>(out: &mut W, s: Shape) -> io::Result<()>
-    requires { s.n ≤ edge }
+fn words<W: Write>(out: &mut W, s: &Shape) -> io::Result<()>
+    requires { s.now.n ≤ edge }
 {
     let n = s.n;
     word(out, n)?;
-    for a in 0..n {
-        word(out, usize::from(s.masks[a]))?;
-        word(out, usize::from(s.flags[a]))?;
+    for (mask, flags) in s.masks[..n].iter().zip(&s.flags[..n]) {
+        word(out, usize::from(*mask))?;
+        word(out, usize::from(*flags))?;
     }
+    // row by row of the flat matrix, of which only the first n links are a shape's
     for a in 0..n {
-        for b in 0..n {
-            word(out, usize::from(s.links[a * EDGE + b]))?;
+        for v in &s.links[a * EDGE..a * EDGE + n] {
+            word(out, usize::from(*v))?;
         }
     }
     Ok(())
 }
 
-fn show<W: Write>(out: &mut W, o: Outcome) -> io::Result<()>
-    requires { o.shape.n ≤ edge }
+fn show<W: Write>(out: &mut W, outcome: &Outcome) -> io::Result<()>
+    requires { outcome.now.shape.n ≤ edge }
 {
-    if o.given {
-        let successor = o.successor;
-        write!(out, " ; {successor} :")?;
-        words(out, o.shape)?;
-    }
-    Ok(())
+    let successor = outcome.successor;
+    write!(out, " ; {successor} :")?;
+    words(out, &outcome.shape)
 }
 
 // ---- steps
 
-fn variable(x: u8) -> u8
-    ensures { result < 16 }
+fn outcomes<W: Write>(out: &mut W, here: Statement, s: &Shape) -> io::Result<()>
+    requires { s.now.n < edge }
 {
-    x % 16
-}
-
-fn outcomes<W: Write>(
-    out: &mut W,
-    op: u8,
-    x: u8,
-    y: u8,
-    s1: usize,
-    s2: usize,
-    s: Shape,
-) -> io::Result<()>
-    requires { (x < 16) × (y < 16) × (s.n < edge) }
-{
-    for j in 0..stepping::places(op, s.n) {
-        show(out, stepping::outcome(op, x, y, s1, s2, s, j))?;
+    for j in 0..stepping::places(here.op, s.n) {
+        if let Some(outcome) = stepping::outcome(here, s, j) {
+            show(out, &outcome)?;
+        }
     }
     Ok(())
 }
 
-// One line, and where the next one starts.
-fn line<W: Write>(out: &mut W, text: &[u8], place: usize) -> io::Result<usize>
-    requires { place ≤ length text.now }
-    ensures { IfOk result (λ next. next ≤ length text.now) }
-{
-    let op = number(text, place);
-    let x = number(text, op.next);
-    let y = number(text, x.next);
-    let s1 = number(text, y.next);
-    let s2 = number(text, s1.next);
-    let row = record_at(text, s2.next);
-    let s = shape_of(&row.bytes);
-    let (op, x, y, s1, s2) = (op.value, x.value, y.value, s1.value, s2.value);
+fn line<W: Write>(out: &mut W, numbers: &mut Numbers) -> io::Result<()> {
+    let op = numbers.number();
+    let x = numbers.number();
+    let y = numbers.number();
+    let s1 = numbers.number();
+    let s2 = numbers.number();
+    let s = shape_of(&numbers.record());
     write!(out, "{op} {x} {y} {s1} {s2} ;")?;
-    words(out, s)?;
-    outcomes(
-        out,
+    words(out, &s)?;
+    let here = Statement {
         op,
-        variable(x),
-        variable(y),
-        usize::from(s1),
-        usize::from(s2),
-        s,
-    )?;
-    writeln!(out)?;
-    Ok(row.next)
+        x: x % 16,
+        y: y % 16,
+        s1: usize::from(s1),
+        s2: usize::from(s2),
+    };
+    outcomes(out, here, &s)?;
+    writeln!(out)
 }
 
 // There are at most as many lines as bytes.
 fn lines<W: Write>(out: &mut W, text: &[u8]) -> io::Result<()> {
-    let mut at: usize = 0;
+    let mut numbers = Numbers { rest: text };
     for _ in 0..text.len() {
-        at = skipped(text, at);
-        if text.len() <= at {
-            return Ok(());
+        if !numbers.more() {
+            break;
         }
-        at = line(out, text, at)?;
+        line(out, &mut numbers)?;
     }
     Ok(())
 }

@@ -1,32 +1,37 @@
 -- The decision: each way out is one case of the verdict, with both promises (Deciding).
-use mathlib.Core.Path.{sym, ◌∙◌}
-use Rattle.claim.proofs.Handed.{is_fine, points_is, shapes_is}
-use Rattle.checker.proofs.Deciding.{laid, unread, unentered, short, lost, accepts}
+use mathlib.Core.Path.{sym, ap, ◌∙◌}
+use Rattle.claim.proofs.Handed.{is_fine}
+use Rattle.checker.specs.Meaning.{verdict_of}
+use Rattle.checker.proofs.Deciding.{Promised, laid, refused_by, unread, unentered, short, lost, accepts}
+use Rattle.model.specs.Verdict as M
 use Rattle.checker.proofs.check.Goals as goal
+use Rattle.checker.proofs.check.Goals.{After-open_points}
 
-pub lists_some-requires : goal.lists_some-requires
-lists_some-requires c = laid _ _ c.in-Fine.is c.scan-claim.ensures
+pub invariant_of-listed : goal.invariant_of-listed
+invariant_of-listed c = record { laid = laid c.in_ok-claim.ensures }
+
+pub returns-in_err-claim-clause-exact : goal.returns-in_err-claim-clause-exact
+returns-in_err-claim-clause-exact c =
+    let d = (unread _ _ _ c.in_err-claim.ensures).0 in
+    (ap verdict_of (refused_by _ _ c.from_residual.ensures.1) ∙ d.0, d.1)
 
 pub returns-then-not-lists_some-clause-exact : goal.returns-then-not-lists_some-clause-exact
-returns-then-not-lists_some-clause-exact c = (unentered _ _ (is_fine _ _ c.in-Fine.is c.scan-claim.ensures) (sym c.lists_some.ensures ∙ c.if-not-lists_some.true)).0
+returns-then-not-lists_some-clause-exact c = (unentered _ _ (is_fine c.in_ok-claim.ensures) (sym c.lists_some.ensures ∙ c.if-not-lists_some.true)).0
 
 pub returns-then-answer-points-clause-exact : goal.returns-then-answer-points-clause-exact
-returns-then-answer-points-clause-exact c = (short _ _ (is_fine _ _ c.in-Fine.is c.scan-claim.ensures) (sym c.lists_some.ensures ∙ c.if-not-lists_some.false) _ (points_is _ _ c.in-Fine.is c.scan-claim.ensures) c.if-answer-points.true).0
+returns-then-answer-points-clause-exact c =
+    (short _ _ (is_fine c.in_ok-claim.ensures) (sym c.lists_some.ensures ∙ c.if-not-lists_some.false) _ c.in_ok-claim.ensures.rest.points c.if-answer-points.true).0
 
-pub first_lost-requires : goal.first_lost-requires
-first_lost-requires c = laid _ _ c.in-Fine.is c.scan-claim.ensures
+pub returns-in-Some-clause-exact : goal.returns-in-Some-clause-exact
+returns-in-Some-clause-exact c =
+    (lost _ _ (is_fine c.in_ok-claim.ensures) (sym c.lists_some.ensures ∙ c.if-not-lists_some.false) _ c.in_ok-claim.ensures.rest.points c.if-answer-points.false _ _ c.in-Some.ensures).0
 
-pub fill-requires : goal.fill-requires
-fill-requires c = (laid _ _ c.in-Fine.is c.scan-claim.ensures, points_is _ _ c.in-Fine.is c.scan-claim.ensures, c.if-answer-points.false)
+accepted : (c : After-open_points) → Promised c.args.file.now c.args.answer.now (M.accepted c.in_ok-claim.claim.shapes c.open_points.result) c.fill.new.answer
+accepted c =
+    accepts _ _ (is_fine c.in_ok-claim.ensures) (sym c.lists_some.ensures ∙ c.if-not-lists_some.false) _ c.in_ok-claim.ensures.rest.points c.if-answer-points.false c.in_default.ensures _ _ _ c.in_ok-claim.ensures.rest.shapes c.fill.ensures c.open_points.ensures
 
-pub returns-in-Refused-clause-exact : goal.returns-in-Refused-clause-exact
-returns-in-Refused-clause-exact c = (unread _ _ _ _ _ c.in-Refused.is c.scan-claim.ensures.reading).0
+pub returns-clause-exact : goal.returns-clause-exact
+returns-clause-exact c = (accepted c).0
 
-pub returns-in-At-clause-exact : goal.returns-in-At-clause-exact
-returns-in-At-clause-exact c = (lost _ _ (is_fine _ _ c.in-Fine.is c.scan-claim.ensures) (sym c.lists_some.ensures ∙ c.if-not-lists_some.false) _ (points_is _ _ c.in-Fine.is c.scan-claim.ensures) c.if-answer-points.false _ _ _ c.in-At.is c.first_lost.ensures).0
-
-pub returns-in-Nowhere-clause-exact : goal.returns-in-Nowhere-clause-exact
-returns-in-Nowhere-clause-exact c = (accepts _ _ (is_fine _ _ c.in-Fine.is c.scan-claim.ensures) (sym c.lists_some.ensures ∙ c.if-not-lists_some.false) _ (points_is _ _ c.in-Fine.is c.scan-claim.ensures) c.if-answer-points.false _ c.in-Nowhere.is c.first_lost.ensures _ _ _ (shapes_is _ _ c.in-Fine.is c.scan-claim.ensures) c.fill.ensures c.open_points.ensures).0
-
-pub returns-in-Nowhere-clause-safe : goal.returns-in-Nowhere-clause-safe
-returns-in-Nowhere-clause-safe c = (accepts _ _ (is_fine _ _ c.in-Fine.is c.scan-claim.ensures) (sym c.lists_some.ensures ∙ c.if-not-lists_some.false) _ (points_is _ _ c.in-Fine.is c.scan-claim.ensures) c.if-answer-points.false _ c.in-Nowhere.is c.first_lost.ensures _ _ _ (shapes_is _ _ c.in-Fine.is c.scan-claim.ensures) c.fill.ensures c.open_points.ensures).1
+pub returns-clause-safe : goal.returns-clause-safe
+returns-clause-safe c = (accepted c).1

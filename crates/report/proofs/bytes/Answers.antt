@@ -1,5 +1,5 @@
 -- Where a piece fails, a front of the line is written.
-use Rattle.std.proofs.Common.{◌≡◌, ◌+◌, ◌-◌, codes, sym, subst, arith}
+use Rattle.std.proofs.Common.{◌≡◌, ◌+◌, ◌-◌, length, codes, sym, subst, arith}
 use Rattle.std.specs.Prelude.{slice_index}
 use Rattle.std.specs.Io.KnownBytes.{Appends}
 use Rattle.std.proofs.KnownBytes.{Appends-nil, Appends-trans}
@@ -17,9 +17,9 @@ returns-in_err-piece-clause-err g c =
     let front = AppendsFront (g.W.Write.contents c.args.out.now) (g.W.Write.contents c.piece.new.out) in
     let v = slice_index c.args.answer.now in
     let p = c.loop-p.p in
-    let rest : (p + 1) + (c.args.n - (p + 1)) ≡ c.args.n = omega arith in
+    let rest : (p + 1) + (length c.args.answer.now - (p + 1)) ≡ length c.args.answer.now = omega arith in
     let here : front (spaced v (p + 1)) = subst front (sym (one_more v p)) (front_then _ (spaced v p) c.loop-p.invariant c.in_err-piece.ensures.err) in
-    on_err _ (front_more (codes "\n") (subst (λ n. front (spaced v n)) rest (front_up v (p + 1) (c.args.n - (p + 1)) here)))
+    on_err _ (front_more (codes "\n") (subst (λ n. front (spaced v n)) rest (front_up v (p + 1) (length c.args.answer.now - (p + 1)) here)))
 
 pub loop-p-preserved : goal.loop-p-preserved
 loop-p-preserved g c =
@@ -31,5 +31,5 @@ loop-p-preserved g c =
 pub returns-clause-err : goal.returns-clause-err
 returns-clause-err g c =
     let v = slice_index c.args.answer.now in
-    let all : c.loop-p.p ≡ c.args.n = omega arith in
-    on_err_weaker c.put.result (λ e. front_then _ (spaced v c.args.n) (rw all at c.loop-p.invariant) e) c.put.ensures.err
+    let all : c.loop-p.p ≡ length c.args.answer.now = omega arith in
+    on_err_weaker c.put.result (λ e. front_then _ (spaced v (length c.args.answer.now)) (rw all at c.loop-p.invariant) e) c.put.ensures.err

@@ -13,4 +13,4 @@ pub returns-clause-err : goal.returns-clause-err
 returns-clause-err g c =
     on_err_weaker c.decimal-2.result
     (λ e. subst (AppendsFront _ _) (sym (later c.args.p c.args.byte c.if-p-eq0.false)) (front_then _ (codes " ") c.in_ok-put.ensures.ok e))
-    c.decimal-2.ensures.err
+    (rw c.from-n.ensures at c.decimal-2.ensures.err)

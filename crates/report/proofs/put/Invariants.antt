@@ -1,13 +1,14 @@
--- The bytes so far are written.
-use Rattle.std.proofs.Common.{length, ◌-◌, ◌≤◌, take}
+-- What has been written stands before what is left.
+use Rattle.std.proofs.Common.{◌≡◌, ℕ, List, ◌++◌, length}
 use Rattle.std.specs.Io.KnownBytes.{Appends}
 use Rattle.report.proofs.put.Given as goal
 
-abbrev pub invariant-loop-done : goal.invariant-loop-done
-invariant-loop-done g l = record {
-  inside : l.done ≤ length l.bytes;
-  written : Appends (g.W.Write.contents l.initial.out) (g.W.Write.contents l.out) (take l.done l.bytes);
+abbrev pub invariant-loop-rest : goal.invariant-loop-rest
+invariant-loop-rest g l = record {
+  written : List ℕ;
+  all : l.fn.bytes ≡ written ++ l.rest;
+  appended : Appends (g.W.Write.contents l.fn.out) (g.W.Write.contents l.out) written;
 }
 
-abbrev pub decreases-loop-done : goal.decreases-loop-done
-decreases-loop-done g l = length l.bytes - l.done
+abbrev pub decreases-loop-rest : goal.decreases-loop-rest
+decreases-loop-rest g l = length l.rest

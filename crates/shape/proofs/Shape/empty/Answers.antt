@@ -1,4 +1,4 @@
--- `shape::Shape::empty` meets its contract. No individuals.
+-- `shape::Shape::empty` meets its contract.
 use mathlib.Core.Path.{refl}
 use Rattle.model.specs.Step.{edge}
 use Rattle.shape.proofs.Entries.{grid_zeros, made_eq, mask_zeros, shared_zeros, summary_zeros}

@@ -1,7 +1,7 @@
--- `shape::Shape::key` meets its contract. The individual's key: its shared bit weighs more than any mask.
+-- `shape::Shape::key` meets its contract.
 use mathlib.Core.Path.{◌∙◌}
 use Rattle.shape.proofs.Entries.{key_is}
 use Rattle.shape.proofs.Shape.key.Goals as goal
 
 pub returns : goal.returns
-returns c = let a = c.args in c.key.ensures ∙ key_is a.self.masks a.self.flags a.a
+returns c = let s = c.args.self.now in c.key.ensures ∙ key_is s.masks s.flags c.args.a

@@ -13,7 +13,7 @@ loop-a-preserved c =
     let s = c.loop-a in
     let l = grid g.links.now in (
       omega arith,
-      down_next g.t (column g.t (sure_but g.u) l) l s.links s.a c.sure_value-v.result (omega arith) (omega arith) (column_else g.t (sure_but g.u) l) (c.sure_value-v.ensures ∙ ap ((sure_but g.u) s.a) (down_read g.t (column g.t (sure_but g.u) l) l s.links s.a g.t (omega arith) (omega arith) s.invariant.1) ∙ sym (column_here g.t (sure_but g.u) l s.a)) s.invariant.1,
+      down_next g.t (column g.t (sure_but g.u) l) l s.links s.a _ (omega arith) (omega arith) (column_else g.t (sure_but g.u) l) (c.sure_value.ensures ∙ ap ((sure_but g.u) s.a) (down_read g.t (column g.t (sure_but g.u) l) l s.links s.a g.t (omega arith) (omega arith) s.invariant.1) ∙ sym (column_here g.t (sure_but g.u) l s.a)) s.invariant.1,
     )
 
 pub returns : goal.returns

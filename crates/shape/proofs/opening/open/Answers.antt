@@ -1,48 +1,23 @@
--- `shape::opening::open` meets its contract. The result of opening u at place j: 0 without target, 1 + 2 v with v
--- whole, 2 + 2 v with v divided.
-use Prim.Native.Nat.{◌%◌, ◌+◌, ◌-◌, ◌/◌}
-use mathlib.Core.Bool.{Bool, ◌&&◌}
-use mathlib.Core.Path.{◌∙◌, ap, ap₂, sym}
-use native.Mathlib.Omega.{arith}
-use borrow.Author.Tests.{eq-eqb, ne_eqb}
-use Rattle.model.specs.Truth.{Truth, half}
-use Rattle.shape.proofs.Entries.{summary_at}
-use Rattle.shape.proofs.Grid.{grid_at}
+-- `shape::opening::open` meets its contract.
+use Prim.Native.Nat.{◌-◌, ◌/◌}
+use mathlib.Core.Path.{◌∙◌, ap, refl, sym}
 use Rattle.model.specs.Shape as M
 use Rattle.model.specs.Step as S
+use Rattle.shape.proofs.Stages.{divided_slot}
+use Rattle.shape.specs.Meaning.{meaning}
 use Rattle.shape.proofs.opening.open.Goals as goal
 
-pub returns-then-divides : goal.returns-then-divides
-returns-then-divides c =
+pub returns : goal.returns
+returns c =
     let a = c.args in
-    let h = c.requires in
-    let o = c.settle-then-divides.ensures in
-    record {
-      is =
-          o.is ∙ ap (λ (W : M.Shape). S.settled W a.u ((a.j + 1) / 2 - 1)) (c.whole-then-divides.ensures ∙ ap (λ (W : M.Shape). S.whole W a.u ((a.j + 1) / 2 - 1)) c.divided.ensures)
-          ∙ rw (
-            ne_eqb a.j 0 c.if-j-eq0.false,
-            eq-eqb (a.j % 2) 0 (let z = c.if-j-eq1.false in omega arith),
-            sym c.possible.ensures ∙ c.if-possible.true,
-            sym (ap₂ (λ (b : Bool) (v : Truth). b && half v) (sym (summary_at a.s.flags ((a.j + 1) / 2 - 1))) (grid_at a.s.links a.u ((a.j + 1) / 2 - 1) (omega arith) (omega arith))) ∙ sym c.divides.ensures ∙ c.if-divides.true,
-          );
-      size = o.size;
-      low = o.low;
-    }
-
-pub returns-then-possible : goal.returns-then-possible
-returns-then-possible c =
-    let a = c.args in
-    let o = c.not_opened.ensures in
+    let o = c.settle-2.ensures in
+    let v = (a.j - 1) / 2 in
+    let W = meaning a.s.now in
     record {
       is =
           o.is
-          ∙ rw (
-            ne_eqb a.j 0 c.if-j-eq0.false,
-            eq-eqb (a.j % 2) 0 (let z = c.if-j-eq1.false in omega arith),
-            sym c.possible.ensures ∙ c.if-possible.true,
-            sym (ap₂ (λ (b : Bool) (v : Truth). b && half v) (sym (summary_at a.s.flags ((a.j + 1) / 2 - 1))) (grid_at a.s.links a.u ((a.j + 1) / 2 - 1) (omega arith) (omega arith))) ∙ sym c.divides.ensures ∙ c.if-divides.false,
-          );
+          ∙ ap (λ (U : M.Shape). S.settled U a.u v) (c.whole-2.ensures ∙ ap (λ (U : M.Shape). S.whole U a.u v) c.divided.ensures)
+          ∙ divided_slot W a.u a.j v c.if-j-eq0.false c.if-j-eq1.false refl (sym c.opens.ensures ∙ c.if-not-opens.false);
       size = o.size;
       low = o.low;
     }

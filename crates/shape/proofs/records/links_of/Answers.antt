@@ -1,22 +1,29 @@
--- `shape::records::links_of` meets its contract. The k times k link values that stand from a place on.
-use Prim.Native.Nat.{◌*◌, ◌+◌, ℕ}
-use mathlib.Core.Path.{ap, refl, sym}
+-- `shape::records::links_of` meets its contract.
+use Prim.Native.Nat.{ℕ, ◌+◌, ◌*◌}
+use mathlib.Core.List.{List}
+use mathlib.Core.Path.{ap, ◌∙◌}
 use native.Mathlib.Omega.{arith}
-use Rattle.model.specs.File.{byte}
+use lib.ListN.{get_or}
+use lib.Seq.{get_or-take, get_or-drop}
+use Rattle.std.proofs.Common.{rules}
+use Rattle.std.proofs.lemmas.List.{places}
 use Rattle.model.specs.Truth.{truth}
-use Rattle.shape.proofs.Entries.{zeros}
-use Rattle.shape.proofs.Merging.{upto_next, upto_none}
-use Rattle.shape.proofs.Recorded.{place_start}
-use Rattle.shape.specs.Meaning.{cells}
+use Rattle.model.specs.File.{byte}
+use Rattle.shape.proofs.Merging.{upto_row, upto_zeros}
 use Rattle.shape.proofs.records.links_of.Goals as goal
 
 pub loop-a-init : goal.loop-a-init
-loop-a-init c = (omega arith, sym (place_start c.args.place c.args.k), upto_none _ _ _ refl (λ i. zeros cells i))
+loop-a-init c = upto_zeros _ _
 
-pub loop-b-preserved : goal.loop-b-preserved
-loop-b-preserved c =
+pub loop-a-preserved : goal.loop-a-preserved
+loop-a-preserved c =
     let g = c.args in
-    let t = c.loop-a in
-    let s = c.loop-b in
+    let s = c.loop-a in
     let h = c.requires in
-    (omega arith, upto_next (λ (x y : ℕ). truth (byte g.part.now (g.place + g.k * x + y))) g.k s.r t.a s.b _ (omega arith) (omega arith) (ap (λ (x : ℕ). truth (byte g.part.now (x + s.b))) t.invariant.1) s.invariant.1)
+    upto_row (λ (x y : ℕ). truth (byte g.part.now (g.place + g.k * x + y))) g.k s.r _ s.a _ (omega arith) (omega arith) (omega arith) (search (rules, places))
+    (λ b l.
+    ap truth
+    (ap (λ (t : List ℕ). get_or t b 0) c.copy_from_slice.ensures.after
+    ∙ get_or-take _ _ b 0 (omega arith)
+    ∙ get_or-drop (g.place + g.k * s.a) g.part.now b 0))
+    s.invariant
