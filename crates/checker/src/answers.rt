@@ -1,4 +1,4 @@
-// The answer bytes: what holds at each point of an accepted claim.
+// The answer bytes: what holds at each point of an accepted claim. Bytes are written and counted as the definition has them.
 ghost use Rattle.std.specs.Prelude.{◌≡◌, cond, not, Bool, ◌||◌, ◌++◌, ◌%◌, ◌<◌, ◌≤◌, eqb, length, drop, count_by};
 ghost use Rattle.std.specs.Fn.{FnReturnsAt};
 ghost use Rattle.model.specs.Finite.{at};

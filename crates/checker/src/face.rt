@@ -1,4 +1,5 @@
-// The library's face for other languages: numbers and byte slices only. `checker_c` exports it to C.
+// The library's face for other languages: numbers and byte slices only. `checker_c` exports it to C, as an export stands in a
+// static library of its own.
 ghost use Rattle.std.specs.Prelude.{◌≡◌, length, Ok, Err};
 ghost use Rattle.model.specs.Verdict.{answer, answer_of, verdict, buffer_after};
 ghost use Rattle.checker.specs.Meaning.{verdict_of, handed_place};

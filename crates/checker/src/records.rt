@@ -21,6 +21,7 @@ pub struct Listed<'a> {
     ghost laid: { Laid file.now starts.now shapes },
 }
 
+// Points and numbers of shapes are plain numbers, bounded where they are taken: outcomes and records bring them as such.
 impl Listed<'_> {
     // The statement at a point.
     pub fn statement(&self, p: usize) -> Statement

@@ -70,7 +70,7 @@ fn bytes<W: Write>(out: &mut W, answer: &[u8]) -> io::Result<()>
     put(out, b"\n")
 }
 
-// What the verdict's line begins with.
+// What the verdict's line begins with, by the number, by which the text is defined.
 fn heading<W: Write>(out: &mut W, number: usize) -> io::Result<()>
     ensures ok { OnOk result (Appends (W.contents out.old) (W.contents out.new) (heading number)) }
     ensures err { OnErr result (AppendsFront (W.contents out.old) (W.contents out.new) (heading number)) }

@@ -24,7 +24,8 @@ ghost use Rattle.shape.specs.Meaning.{meaning, none, truth_of};
 
 use truth::Truth;
 
-// A working shape has at most so many individuals and link values.
+// A working shape has at most so many individuals and link values. Individuals, variables and places of a step are plain
+// numbers, each bounded where it is taken: a type for them would change what the public functions are handed.
 pub const EDGE: usize = 11;
 
 pub const CELLS: usize = EDGE * EDGE;

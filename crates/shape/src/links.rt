@@ -60,8 +60,9 @@ pub fn copy_links(links: &mut [u8; CELLS], n: usize, v: usize)
     }
 }
 
-// ---- what stands in a row or a column: links that may be there, or must; `but` is left out. A row and a column by one
-// chain each: a function for both would be told by a closure which link is meant, in as many words.
+// ---- what stands in a row or a column: links that may be there, or must; `but` is left out, and EDGE leaves out none (a
+// number like the others, since an Option would be compared at each turn). A row and a column by one chain each: a function
+// for both would be told by a closure which link is meant, in as many words.
 
 impl Shape {
     // Some link of u.

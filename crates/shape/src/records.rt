@@ -9,7 +9,8 @@ ghost use Rattle.shape.specs.Records.{sized, Readable};
 
 use super::{CELLS, EDGE, Shape};
 
-// ---- places and numbers
+// ---- places and numbers. The width of a mask, 1 or 2, is a number, as it is counted with; a part and its width are tied by
+// `Readable` where a record is read or covered, and elsewhere each is used without the other.
 
 // Where individual a stands, or, for a the number of individuals, the first link value.
 pub(crate) fn individual_at(width: usize, a: usize) -> usize
@@ -56,7 +57,7 @@ pub fn read(part: &[u8], width: usize) -> Shape
     let n = usize::from(part[1]);
     let mut masks = [0; EDGE];
     let mut flags = [0; EDGE];
-    // By index: `chunks_exact(width + 1)` divides by a size that is no constant, and the arrays need the index anyway.
+    // By index: over `chunks_exact(width + 1)` the proof didn't close, and the arrays need the index anyway.
     for a in 0..n {
         let at = individual_at(width, a);
         masks[a] = mask_at(part, at, width);

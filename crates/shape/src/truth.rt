@@ -3,6 +3,7 @@ ghost use Rattle.std.specs.Prelude.{◌≡◌, Bool};
 ghost use Rattle.model.specs.Truth as M;
 ghost use Rattle.model.specs.Truth.{truth, may, must, half, join, under};
 
+// A byte as the file has it, and no enum: the matrix is read and written by bytes, of which whatever is above 1 is 1/2.
 #[derive(Clone, Copy, Debug, PartialEq, Eq)]
 pub struct Truth(pub u8);
 

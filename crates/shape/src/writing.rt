@@ -36,7 +36,8 @@ fn individuals(s: &Shape, width: usize, out: &mut [u8])
     }
 }
 
-// The links from a to the k individuals; whatever is above 1 stands for 1/2 and is written 2.
+// The links from a to the k individuals; whatever is above 1 stands for 1/2 and is written 2. Plain numbers say which and
+// where: a struct for one loop would be no plainer.
 fn row(links: &[u8; CELLS], a: usize, k: usize, at: usize, out: &mut [u8])
     requires { (a < edge) × (k ≤ edge) × (at + k ≤ length out.old) }
     ensures { out.new ≡ laid out.old at (each k (link_byte links.now a)) }

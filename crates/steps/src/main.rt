@@ -66,7 +66,7 @@ impl Numbers<'_> {
     }
 }
 
-// The shape of a record, or none if it is too large.
+// The shape of a record, or none if it is too large, which is asked again: of the bytes no more is known here.
 fn shape_of(bytes: &[u8; LONGEST]) -> Shape
     ensures { result.n < edge }
 {
