@@ -6,7 +6,7 @@ use native.Mathlib.Numerals.{add-one}
 use native.Mathlib.Omega.{arith}
 use borrow.Author.Tests.{ltb-true}
 use lib.Dec.{ltb}
-use lib.ListN.{get_or, take, drop}
+use lib.ListN.{length, get_or, take, drop}
 use Rattle.std.proofs.lemmas.Option.{none-some, same_Some}
 use Rattle.std.specs.Prelude.{Result, Ok, Err, Option, Some, None, IfSome}
 use Rattle.std.specs.Result.{result_ok}
@@ -31,6 +31,11 @@ module _ {f : List ℕ} {r : Claim} (t : Reads (format (version f)) f (reading f
   starts_is i h =
       ap (λ l. get_or l i 0) t.rest.starts
       ∙ table_at _ (model.shapes f + 1) _ i (let e = t.rest.shapes in omega arith)
+
+  pub in_file : (i : ℕ) → i ≤ r.shapes → get_or r.starts i 0 ≤ length f
+  in_file i h =
+      let e = t.rest.shapes in
+      rw (starts_is i h) (starts_inside (format (version f)) f (body_fine f is_fine) i (omega arith))
 
   pub part_is : (i : ℕ) → part_of r i ≡ place_of f i
   unfolding place_of

@@ -13,7 +13,7 @@ use Rattle.claim.specs.declared.fields.Fault.{Fault}
 use Rattle.claim.specs.declared.fields.Fault.TheVariants.{CutShort, WrongMark, WrongVersion, BeyondLimit, WrongPoint, WrongShape}
 use Rattle.claim.specs.declared.fields.Refusal.{Refusal}
 use Rattle.claim.specs.declared.parts.Claim.{Claim}
-use Rattle.claim.specs.Answers.{fault_of}
+use Rattle.claim.specs.Answers.{fault_of, reading_of}
 use Rattle.claim.specs.Reads.{Everything, Reads}
 
 -- the case that means a fault
@@ -46,6 +46,12 @@ one_refusal r s e = sym (back r) ∙ ap (refusal r) e ∙ back s
   where
     back : (q : Refusal) → refusal r (refused (fault_of q.fault) q.place) ≡ q
     back q = ap (λ w. record { fault = w; place = q.place }) (case_back q.fault)
+
+pub one_reading : (r s : Result (Unit {0}) Refusal) → reading_of r ≡ reading_of s → r ≡ s
+one_reading (Ok _) (Ok _) e = refl
+one_reading (Ok _) (Err s) e = never (sym e)
+one_reading (Err r) (Ok _) e = never e
+one_reading (Err r) (Err s) e = ap (λ r. Err r) (one_refusal r s e)
 
 -- ---- the claim
 

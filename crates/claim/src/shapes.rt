@@ -119,6 +119,7 @@ impl Reader<'_> {
     fn count(&self) -> Result<usize, Refusal>
         ensures reading { reading_of result ≡ shape_count (meaning self.now.form) self.now.file.now }
         ensures is { IfOk result (λ m. m ≡ shapes self.now.file.now) }
+        ensures limit { IfOk result (λ m. m ≤ self.now.form.shapes) }
         ensures few { IfOk result (λ m. m ≤ 512) }
     {
         let place = 7 + 5 * self.points;
